@@ -1,8 +1,7 @@
 -- SPDX-License-Identifier: Apache-2.0
 -- What is left of a line, a step of it at a time.
 use Rattle.mmeaning.proofs.MeaningWords.{◌≡◌, ℕ, ◌≤◌, List, [], ◌∷◌, Result, Ok, Err, sym, subst, arith, Fault, Act, ◌>>=◌, give, Completion, Standing, Here}
-use Rattle.mmeaning.proofs.MeaningWords.{Did, MayLose, Follows, View, frame, left, Enough, MovedAs, MovedOn, ◌<◌}
-use Rattle.mmeaning.specs.LineMeaning.{Position}
+use Rattle.mmeaning.proofs.MeaningWords.{Did, MayLose, Follows, View, frame, left, Enough, MovedAs, MovedOn}
 use Rattle.mmeaning.specs.Frames.{Fits, Rests, Lists, Turns, Levels, Programs, Conditions}
 use Rattle.mmeaning.proofs.Calls.{then_follows, then_failed, follows_itself, follows_on, failed_after, assoc, did_lost}
 
@@ -61,20 +60,11 @@ fits m n x (Levels p c) le h = omega arith
 fits m n x (Programs p ops k st) le h = omega arith
 fits m n x (Conditions p c rest) le h = omega arith
 
--- fewer steps than a frame may enter texts
-pub fits_below : (m x : ℕ) (f : View) → m < x → Fits f m x
-fits_below m x (Rests p cs) h = omega arith
-fits_below m x (Lists p args) h = h
-fits_below m x (Turns p t) h = omega arith
-fits_below m x (Levels p c) h = omega arith
-fits_below m x (Programs p ops k st) h = h
-fits_below m x (Conditions p c rest) h = h
-
--- no more than that
+-- a frame may enter at least as many texts as there are steps
 pub fits_within : (m x : ℕ) (f : View) → Fits f m x → m ≤ x
 fits_within m x (Rests p cs) h = h
 fits_within m x (Lists p args) h = omega arith
-fits_within m x (Turns p t) h = h
+fits_within m x (Turns p t) h = omega arith
 fits_within m x (Levels p c) h = h
 fits_within m x (Programs p ops k st) h = omega arith
 fits_within m x (Conditions p c rest) h = omega arith

@@ -1,6 +1,6 @@
 -- SPDX-License-Identifier: Apache-2.0
 -- $QLENGTH, $QSUBSCRIPT and $NAME on examples, as proved equations. The values are GT.M's; what is refused is refused there too.
-use Rattle.mmeaning.proofs.MeaningWords.{◌≡◌, List, [], ◌∷◌, codes, State, Text, Done, Gives, Fails, computes, reads_in, rules}
+use Rattle.mmeaning.proofs.MeaningWords.{◌≡◌, [], ◌∷◌, codes, State, Text, Done, Gives, Fails, computes, reads_in, rules}
 use Rattle.std.specs.Prelude.{Some, None, pos, negsuc}
 use Rattle.mspec.specs.Code.{Code, M1, M90, Zarg}
 use Rattle.mspec.specs.Plan.{Plan}

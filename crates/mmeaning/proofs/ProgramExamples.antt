@@ -3,14 +3,18 @@
 use Rattle.mmeaning.proofs.MeaningWords.{◌≡◌, ℕ, suc, true, List, [], ◌∷◌, Option, Some, None, refl, rules, map, codes, option_map, Done, Gives, Text, State}
 use Rattle.mmeaning.proofs.MeaningWords.{PrimaryTree, reference, number, text, apply, join, multiply, minus, one, variable, at_label, no_exprs, exprs}
 use Rattle.mmeaning.proofs.MeaningWords.{set_argument, write_argument, do_argument, xecute_argument, args_in, reads_in, Position, context}
-use Rattle.mgrammar.specs.Grammar.{FormTree, operand, add, value_actual, name_actual, missing_actual, quit_argument}
+use Rattle.mgrammar.specs.Grammar.{FormTree, ExprTree, extrinsic, no_actuals, once, onward, until, add, value_actual, name_actual, missing_actual}
+use Rattle.mgrammar.specs.Grammar.{quit_argument}
+use Rattle.mgrammar.specs.Grammar.{operand}
 use Rattle.mspec.specs.Code.{M4}
-use Rattle.mgrammar.proofs.ShortTrees.{plain, named, the_one}
+use Rattle.mgrammar.proofs.ShortTrees.{plain, only, named, the_one}
 use Rattle.mmeaning.specs.Programs.{one_value, Op, Operand, Tail, Spend, Sign, Join, Match_not, Values, Add, Function, Begin, Actual, Hand, Call, Where}
 use Rattle.mmeaning.specs.Programs.{Prepare, Local, Global, Naked, Extended, Named, Read, Data, Resolve, Get, Walk, Order, Unless, Pass, Refuse, Ending, Assign}
 use Rattle.mmeaning.specs.Programs.{Tell_name, Seek, Query, Show}
 use Rattle.mmeaning.specs.Programs.{Run}
 use Rattle.mmeaning.specs.Programs.{Return, Enter, Program, calls, begun, program_of}
+use Rattle.mmeaning.proofs.MeaningWords.{kill_argument, lock_argument, anew}
+use Rattle.mmeaning.specs.Programs.{Targets, Target, Part, Names, Name, Numbers, Number, Kill, Lock, Indirect, of_parameter}
 
 -- those of the arguments that a text has, in a language that has calls everywhere
 abbrev programs : FormTree → Text → Option (List (Option Program))
@@ -30,6 +34,10 @@ a = reference (named (codes "A"))
 -- a call without actuals, once its step is spent
 abbrev called : Text → List Op → List Op
 called name ops = Spend ∷ Begin ∷ Call (at_label name) ∷ ops
+
+-- the call as an expression
+abbrev calling : Text → ExprTree
+calling name = only (extrinsic (at_label name) no_actuals)
 
 record Programs : Type 0 where
   -- the operand before a call, the call, and what comes after it
@@ -81,9 +89,24 @@ record Programs : Type 0 where
       ≡ one_of (Spend ∷ called (codes "F") (Unless 2 ∷ Operand (plain a) ∷ Pass 7
       ∷ Operand (plain (number (codes "1"))) ∷ Unless 4 ∷ called (codes "G") (Pass 1 ∷ Refuse M4 ∷ []))) Return
   matched : programs quit_argument (codes "A'?@$$F") ≡ one_of (Operand (plain a) ∷ called (codes "F") (Match_not ∷ [])) Return
-  -- there is none yet for a call in the subscripts after an indirection, in an indirection of arguments, or in a target
-  none_yet : map (programs write_argument) (codes "@A@($$F)" ∷ codes "1_@A@($$F)" ∷ codes "@$$F" ∷ []) ≡ none ∷ none ∷ none ∷ []
-  no_target_yet : programs set_argument (codes "A($$F)=1") ≡ none
+  -- targets of which one has a call are brought together one at a time, before the value
+  targeted : programs set_argument (codes "(A($$F),B)=1")
+      ≡ one_of (Targets ∷ Values ∷ called (codes "F") (Add ∷ Local (codes "A") ∷ Target ∷ Values ∷ Local (codes "B") ∷ Target
+      ∷ Operand (plain (number (codes "1"))) ∷ [])) Assign
+  in_part : programs set_argument (codes "$P(A,$$F)=1")
+      ≡ one_of (Targets ∷ Values ∷ Local (codes "A") ∷ Values ∷ called (codes "F") (Add ∷ Part (codes "P")
+      ∷ Operand (plain (number (codes "1"))) ∷ [])) Assign
+  removed : programs kill_argument (codes "A($$F)") ≡ one_of (Values ∷ called (codes "F") (Add ∷ Local (codes "A") ∷ [])) Kill
+  held : programs lock_argument (codes "A:$$F") ≡ one_of (Names ∷ Values ∷ Local (codes "A") ∷ Name ∷ called (codes "F") []) (Lock anew true)
+  of_a_text : programs write_argument (codes "@$$F") ≡ one_of (called (codes "F") []) (Indirect write_argument)
+  -- a parameter of FOR becomes a number before the next of its values is evaluated, unless it is one value
+  onward_by : of_parameter (onward (calling (codes "F")) the_one) []
+      ≡ Numbers ∷ called (codes "F") (Number ∷ Operand (plain (number (codes "1"))) ∷ Number ∷ [])
+  up_to : of_parameter (until the_one the_one (calling (codes "F"))) []
+      ≡ Numbers ∷ Operand (plain (number (codes "1"))) ∷ Number ∷ Operand (plain (number (codes "1"))) ∷ Number ∷ called (codes "F") (Number ∷ [])
+  only_once : of_parameter (once (calling (codes "F"))) [] ≡ called (codes "F") []
+  -- there is none yet for a call in the subscripts after an indirection
+  none_yet : map (programs write_argument) (codes "@A@($$F)" ∷ codes "1_@A@($$F)" ∷ []) ≡ none ∷ none ∷ []
 
 examples : Programs
 unfolding reads_in

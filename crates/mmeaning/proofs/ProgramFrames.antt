@@ -7,13 +7,13 @@ use Rattle.mmeaning.specs.Operators.{as_truth}
 use Rattle.mmeaning.specs.Levels.{answers}
 use Rattle.mmeaning.specs.Parameters.{bare_list}
 use Rattle.mmeaning.specs.LineMeaning.{entering, returned_value, answer, effect, where_holds}
-use Rattle.mmeaning.specs.Programs.{Item, one_value, handing, Op, Call, Unless, Pass, Ending, Enter, Run, step, ended_by, going_on, carried_past}
-use Rattle.mmeaning.specs.Programs.{carried, Pause, over, end_begun, begun_on, begun_past, begun}
+use Rattle.mmeaning.specs.Programs.{Item, one_value, handing, Op, Call, Unless, Pass, Ending, Enter, Run, Indirect, Loop, step, ended_by, going_on}
+use Rattle.mmeaning.specs.Programs.{carried_past, looped, carried, Pause, over, turns, end_begun, begun_on, begun_past, begun}
 use Rattle.mmeaning.specs.Frames.{Lists, Programs, Conditions, frame, resumed}
-use Rattle.mmeaning.specs.ProgramLaws.{ProgramsPause, ProgramsTakeValues, ConditionsGoOn, ArgumentsPause, ConditionsPause}
+use Rattle.mmeaning.specs.ProgramLaws.{ProgramsPause, ProgramsTakeValues, ConditionsGoOn, ArgumentsPause, ConditionsPause, ParametersPause}
 use Rattle.mmeaning.proofs.Calls.{assoc, ended}
 use Rattle.mmeaning.proofs.ProgramSteps.{stepped}
-use Rattle.mmeaning.proofs.ProgramArguments.{programs_carry_arguments, programs_carry_conditions}
+use Rattle.mmeaning.proofs.ProgramArguments.{programs_carry_arguments, programs_carry_conditions, programs_carry_parameters}
 
 module _ (a : Text) (n : ℕ) (p : Position) (k : Ending) where
   abbrev x : Context
@@ -50,6 +50,8 @@ end_pauses : (a : Text) (n : ℕ) (p : Position) (k : Ending) (st : List Item)
     → Alike a n p k (ended_by (context a n p) k st) (then_resumed a n p k (end_begun (context a n p) k st))
 end_pauses a n p (Enter e is_listed) (handing b bs ∷ st) = refl
 end_pauses a n p Run (one_value v ∷ st) = refl
+end_pauses a n p (Indirect f) (one_value v ∷ st) = refl
+end_pauses a n p (Loop index rest body) (i ∷ st) = sym (assoc (looped index i) (λ c. give (turns c)) (resumed a n p (Loop index rest body)))
 end_pauses a n p k st = goes_over a n p k (ended_by (context a n p) k st)
 
 -- once this many steps are passed by
@@ -88,3 +90,8 @@ conditions_pause a n p c rest e q is h =
     conditions_go_on a n p c rest e q is h
     ∙ (λ j. programs_pause a n p q.steps q.ending [] j >>= frame a n (Conditions p c rest))
     ∙ assoc (begun (context a n p) q.steps q.ending []) (resumed a n p q.ending) (frame a n (Conditions p c rest))
+
+pub parameters_pause : ParametersPause
+parameters_pause a n p index q rest body r h =
+    programs_carry_parameters (context a n p) index q rest body r h
+    ∙ programs_pause a n p r.steps r.ending []

@@ -57,7 +57,7 @@ module _ (x : Context) (k : Ending) where
   stepped p f ops = assoc p (λ a. give (Some (f a))) (going_on (carried x ops k))
 
   -- one of two programs
-  by_test : (c : Bool) (ops others : List Op) (st : List Item) (q : Act Completion)
+  pub by_test : (c : Bool) (ops others : List Op) (st : List Item) (q : Act Completion)
       → (c ≡ true → Same (carried x ops k st) q) → (c ≡ false → Same (carried x others k st) q) → Same (carried x (cond c ops others) k st) q
   by_test true ops others st q yes_case no_case = yes_case refl
   by_test false ops others st q yes_case no_case = no_case refl
@@ -264,7 +264,7 @@ module _ (x : Context) (k : Ending) where
         ∙ sym (assoc (primary_value i p) (λ v. unaries signs v) (λ v. carried x ops k (one_value v ∷ st))))
         (λ n. uncalled_operand (operand signs p) ops st n)
 
-    primary_carried : (p : PrimaryTree) (ops : List Op) (st : List Item) → in_steps_primary p ≡ true
+    pub primary_carried : (p : PrimaryTree) (ops : List Op) (st : List Item) → in_steps_primary p ≡ true
         → Same (carried x (of_primary p ops) k st) (primary_value i p >>= (λ v. carried x ops k (one_value v ∷ st)))
     primary_carried (number literal) ops st h = uncalled_primary (number literal) ops st refl
     primary_carried (text t) ops st h = uncalled_primary (text t) ops st refl
@@ -351,7 +351,7 @@ module _ (x : Context) (k : Ending) where
         ∙ one_more_past (of_value v []) passes later st
         ∙ choices_carried rest ops st l.1)))
 
-    values_carried : (es : ExprsTree) (vs : List Text) (ops : List Op) (st : List Item) → in_steps_exprs es ≡ true
+    pub values_carried : (es : ExprsTree) (vs : List Text) (ops : List Op) (st : List Item) → in_steps_exprs es ≡ true
         → Same (carried x (programs.of_values es ops) k (some_values vs ∷ st)) (values i vs es >>= (λ ws. carried x ops k (some_values ws ∷ st)))
     values_carried no_exprs vs ops st h = refl
     values_carried (exprs e rest) vs ops st h =

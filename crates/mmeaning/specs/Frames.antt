@@ -1,13 +1,14 @@
 -- SPDX-License-Identifier: Apache-2.0
 -- What a line still has to do, frame by frame: a frame is an act from the completion of what was done before it to its own.
-use Rattle.std.specs.Prelude.{ℕ, ◌≤◌, ◌<◌, List, [], ◌∷◌, Result, Ok, Err}
+use Rattle.std.specs.Prelude.{ℕ, suc, ◌≤◌, ◌<◌, List, [], ◌∷◌, Result, Ok, Err}
 use Rattle.mspec.specs.Code.{Fault}
 use Rattle.mspec.specs.Act.{Text, Act, ◌>>=◌, give}
 use Rattle.mgrammar.specs.Grammar.{ArgTree, CommandTree}
 use Rattle.mmeaning.specs.LineMeaning.{Completion, Position, Turning, Closing, leaves, answers, after, arguments, effect, commands, after_turn, after_level}
-use Rattle.mmeaning.specs.LineMeaning.{closed, entering, returned_value, text_executed, context}
+use Rattle.mmeaning.specs.LineMeaning.{closed, entering, returned_value, text_executed, given_by, context}
 use Rattle.mmeaning.specs.Parameters.{bare_list}
-use Rattle.mmeaning.specs.Programs.{Op, Item, one_value, Ending, listed, carried, once_true, Pause, over, calls, enters, executes}
+use Rattle.mmeaning.specs.Programs.{Op, Item, one_value, Ending, listed, carried, once_true, Pause, over, calls, enters, executes, lists, turns}
+use Rattle.mmeaning.specs.Programs.{turned}
 use Rattle.mmeaning.specs.Calls.{Standing, Here, FailedBy, Follows}
 
 -- the rest of a line, the rest of a command's arguments, a turn of a FOR, and a level with how it closes; what is left of a program after
@@ -34,6 +35,8 @@ resumed a n p k (over s) = give s
 resumed a n p k (calls e b bs ops st) = entering (context a n p) e bare_list bs (answers b) >>= frame a n (Programs p ops k st)
 resumed a n p k (enters e is_listed bs) = entering (context a n p) e (listed is_listed) bs leaves
 resumed a n p k (executes text) = text_executed (context a n p) text
+resumed a n p k (lists f text) = given_by (context a n p) f text
+resumed a n p k (turns c) = turned (context a n p) k c
 
 -- from the top, each with the number of texts that it may enter
 abbrev pub left : Text → List View → List ℕ → Completion → Act Completion
@@ -42,10 +45,12 @@ left a (f ∷ fs) [] s = give s
 left a (f ∷ fs) (n ∷ ns) s = frame a n f s >>= left a fs ns
 
 -- A frame may enter at least as many texts as there are steps. What stands within a command, whose own step is spent, may enter one more: a
--- program may end with a text that no further step comes before.
+-- program may end with a text that no further step comes before. So may the turns of a FOR, which have parameters to evaluate. What is left of
+-- a program may enter two more, since it spent a step before its first call: it may end with arguments that a text gives.
 abbrev pub Fits : View → (steps n : ℕ) → Type 0
 Fits (Lists p args) steps n = steps < n
-Fits (Programs p ops k st) steps n = steps < n
+Fits (Turns p t) steps n = steps < n
+Fits (Programs p ops k st) steps n = suc steps < n
 Fits (Conditions p c rest) steps n = steps < n
 Fits f steps n = steps ≤ n
 

@@ -2,12 +2,14 @@
 -- The laws of programs, as statements. The functions of src/ named after them carry them.
 use Rattle.std.specs.Prelude.{◌≡◌, ℕ, true, List, [], ◌∷◌, Some}
 use Rattle.mspec.specs.Act.{Text, Act, ◌>>=◌}
-use Rattle.mgrammar.specs.Grammar.{ExprTree, ReferenceTree, ArgTree, CommandTree}
+use Rattle.mgrammar.specs.Grammar.{ExprTree, ReferenceTree, ParameterTree, ArgTree, CommandTree}
 use Rattle.mgrammar.specs.CallsIn.{has_call_arg}
 use Rattle.mgrammar.specs.ProgramsIn.{in_steps, in_steps_reference, in_steps_arg}
 use Rattle.mmeaning.specs.Expression.{value, evaluated}
 use Rattle.mmeaning.specs.LineMeaning.{Completion, Returns, Position, Context, context, inside_of, where_holds, argument, arguments, conditional}
+use Rattle.mmeaning.specs.LineMeaning.{next_parameter}
 use Rattle.mmeaning.specs.Programs.{Item, one_value, found, Op, Ending, Program, carried, of_value, of_reference, program_of, program_of_condition}
+use Rattle.mmeaning.specs.Programs.{program_of_parameter}
 use Rattle.mmeaning.specs.Programs.{once_true, begun}
 use Rattle.mmeaning.specs.Frames.{Lists, Programs, Conditions, frame, resumed}
 
@@ -38,6 +40,13 @@ abbrev pub ProgramsCarryConditions : Type 0
 ProgramsCarryConditions =
     (x : Context) (e : ExprTree) (p : Program) (q : Act Completion) → program_of_condition e ≡ Some p →
     ◌≡◌ {A = Act Completion} (where_holds x (Some e) q) (carried x p.steps p.ending [] >>= once_true q)
+
+-- and a parameter of FOR, with the turns that it has, and the parameters after it
+abbrev pub ProgramsCarryParameters : Type 0
+ProgramsCarryParameters =
+    (x : Context) (index : Text) (q : ParameterTree) (rest : List ParameterTree) (body : List CommandTree) (p : Program) →
+    program_of_parameter index q rest body ≡ Some p →
+    ◌≡◌ {A = Act Completion} (next_parameter x index body (q ∷ rest)) (carried x p.steps p.ending [])
 
 -- ---- frames
 
@@ -75,3 +84,11 @@ ConditionsPause =
     c.condition ≡ Some e → program_of_condition e ≡ Some q →
     ◌≡◌ {A = Act Completion} (conditional (context a n p) c rest)
     (begun (context a n p) q.steps q.ending [] >>= (λ r. resumed a n p q.ending r >>= frame a n (Conditions p c rest)))
+
+-- and at a parameter of FOR, of which nothing is left on the frames while it is evaluated but its program
+abbrev pub ParametersPause : Type 0
+ParametersPause =
+    (a : Text) (n : ℕ) (p : Position) (index : Text) (q : ParameterTree) (rest : List ParameterTree) (body : List CommandTree) (r : Program) →
+    program_of_parameter index q rest body ≡ Some r →
+    ◌≡◌ {A = Act Completion} (next_parameter (context a n p) index body (q ∷ rest))
+    (begun (context a n p) r.steps r.ending [] >>= resumed a n p r.ending)

@@ -3,42 +3,55 @@
 --
 -- What stands before a call and what comes after it are apart here, so that a function's level can open in between. A step does what the
 -- meaning of expressions and lines does at its place, and costs what that costs. What has no call is one step.
-use Rattle.std.specs.Prelude.{ℕ, zero, suc, pos, Bool, true, false, not, cond, List, [], ◌∷◌, ◌++◌, length, slice_get, unwrap_or, Option, Some, None}
+use Rattle.std.specs.Prelude.{ℕ, zero, suc, ℤ, pos, Bool, true, false, not, cond, List, [], ◌∷◌, ◌++◌, length, slice_get, unwrap_or, Option, Some, None}
+use Rattle.std.specs.Prelude.{is_some}
+use Rattle.mspec.specs.LockConflict.{LockName}
 use Rattle.mspec.specs.Scopes.{Binding, valued}
 use Rattle.mspec.specs.Interpretations.{truth_text}
+use Rattle.mspec.specs.NumberText.{number_text}
 use Rattle.mspec.specs.Code.{Code, M4, Zsyntax}
 use Rattle.mspec.specs.Act.{Text, Act, ◌>>=◌, ◌>>◌, give, fail, charge, write, write_formats, test_is}
 use Rattle.mgrammar.specs.Grammar.{SignTree, BinaryTree, ExprTree, expr, TailsTree, no_tails, tail, TailTree, apply, raise, matches_indirect}
 use Rattle.mgrammar.specs.Grammar.{matches_not_indirect, OperandTree, operand, PrimaryTree, reference, bracket, call, select, refer, extrinsic, ReferenceTree}
 use Rattle.mgrammar.specs.Grammar.{local, global, naked, indirect, extended, ExprsTree, no_exprs, exprs, ChoicesTree, no_choices, choice}
-use Rattle.mgrammar.specs.Grammar.{EntryTree, ActualTree, value_actual, indirect_actual, ActualsTree, no_actuals, actuals, DestinationTree}
+use Rattle.mgrammar.specs.Grammar.{EntryTree, ActualTree, value_actual, indirect_actual, ActualsTree, no_actuals, actuals, TargetTree, variable, part}
+use Rattle.mgrammar.specs.Grammar.{DestinationTree, ParameterTree, once, onward, until, LockKindTree, FormTree, CommandTree}
 use Rattle.mgrammar.specs.Grammar.{ArgTree, assign, formats, coded, shown, kill_one, kill_others, new_one, new_others, tested, loop, do_one, go_to, executed}
 use Rattle.mgrammar.specs.Grammar.{locked, hang_for, returned, indirect_args}
-use Rattle.mgrammar.specs.Functions.{data_function, get_function, name_function, order_function, query_function, FunctionTree, of_variable, function_of}
-use Rattle.mgrammar.specs.CallsIn.{has_call, has_call_operand, has_call_primary}
-use Rattle.mgrammar.specs.ProgramsIn.{in_steps, in_steps_optional, in_steps_arg}
+use Rattle.mgrammar.specs.Functions.{data_function, get_function, name_function, order_function, FunctionTree, of_variable, function_of}
+use Rattle.mgrammar.specs.CallsIn.{has_call, has_call_operand, has_call_primary, has_call_destination}
+use Rattle.mgrammar.specs.ProgramsIn.{in_steps, in_steps_primary, in_steps_reference, in_steps_optional, in_steps_parameter}
+use Rattle.mgrammar.specs.ProgramsIn.{in_steps_arg}
 use Rattle.mmeaning.specs.Operators.{as_number, as_truth, unaries, binary, raising}
 use Rattle.mmeaning.specs.Functions.{whole_text, whole_at, call_value}
-use Rattle.mmeaning.specs.Variables.{Evaluated, of_local, of_global, of_naked, Place, reading, ordering, resolve, read_at, read_or, status_at, next_at}
-use Rattle.mmeaning.specs.Variables.{data_number, direction_of, named, querying, query_at}
+use Rattle.mmeaning.specs.Variables.{Evaluated, of_local, of_global, of_naked, Place, at_local, reading, ordering, writing, resolve, read_at, read_or}
+use Rattle.mmeaning.specs.Variables.{put_at, status_at, next_at, kill_at, named_lock, data_number, direction_of, named}
+use Rattle.mgrammar.specs.Functions.{query_function}
+use Rattle.mmeaning.specs.Variables.{querying, query_at}
 use Rattle.mmeaning.specs.Expression.{Inside, inside, is_bare, linked_by, named_by, matches_text, tail_value, operand_value}
 use Rattle.mmeaning.specs.Parameters.{bare_list, handed}
 use Rattle.mmeaning.specs.Levels.{leaves}
-use Rattle.mmeaning.specs.LineMeaning.{Completion, Go_on, Returns, Context, Prepared, all_prepared, targets, all_assigned, spaced_to, character_written}
-use Rattle.mmeaning.specs.LineMeaning.{truth_tested, where_true, entering, answer, text_executed, going}
+use Rattle.mmeaning.specs.Locking as locks
+use Rattle.mmeaning.specs.LineMeaning.{Completion, Go_on, Returns, Context, Prepared, whole, partial, all_prepared, targets, all_assigned, spaced_to}
+use Rattle.mmeaning.specs.LineMeaning.{character_written, truth_tested, where_true, entering, answer, text_executed, going, given_by}
+use Rattle.mmeaning.specs.LineMeaning.{next_parameter, begin_turn}
+use Rattle.mmeaning.specs.Courses.{Course, last_turn, endless, limited, is_past}
 
 -- ---- the stack
 
--- a value; the values of arguments or of subscripts so far; a reference, and the place that it names, once that is checked for a read, or
--- for $ORDER or for $QUERY; the targets of SET; and what the actuals so far hand over, with what $TEST was before them
+-- a value; the values of arguments or of subscripts so far, and the numbers of a parameter of FOR; a reference, and the place that it names,
+-- once that is checked for a read, or for $ORDER or for $QUERY; the targets of SET, and the names of LOCK, so far; and what the actuals so far hand over,
+-- with what $TEST was before them
 pub data Item : Type 0 where
   one_value : Text → Item
   some_values : List Text → Item
+  some_numbers : List ℤ → Item
   found : Evaluated → Item
   placed : Place → Item
   walked : Place → Item
   sought : Place → Item
   made : List Prepared → Item
+  some_names : List LockName → Item
   handing : Bool → List Binding → Item
 
 -- ---- steps
@@ -48,7 +61,8 @@ pub data Item : Type 0 where
 -- function; a condition, without which the argument ends; and formats of WRITE. What makes a reference of the values of its subscripts, or
 -- of the text of an `@` and the subscripts after that, which have no call; its value, and whether it has one; its checks, where more is
 -- evaluated before its place is asked; what is then asked of that; and its name, which needs no check. In $SELECT, what passes steps by:
--- those of a value whose condition is false, and those of the choices after the one that is taken. And a code.
+-- those of a value whose condition is false, and those of the choices after the one that is taken. What brings together the targets of SET,
+-- if a function is called in them, the names of LOCK, and the numbers of a parameter of FOR. And a code.
 pub data Op : Type 0 where
   Operand : OperandTree → Op
   Tail : TailTree → Op
@@ -85,10 +99,18 @@ pub data Op : Type 0 where
   Query : Op
   Unless : ℕ → Op
   Pass : ℕ → Op
+  Targets : Op
+  Target : Op
+  Part : Text → Op
+  Names : Op
+  Name : Op
+  Numbers : Op
+  Number : Op
   Refuse : Code → Op
 
 -- what a command does in the end: SET; WRITE of a value, of a column and of a code; IF; a condition of a command; HANG; QUIT; XECUTE; DO,
--- with whether a list of actuals is written; and GOTO
+-- with whether a list of actuals is written; GOTO; KILL; LOCK, with whether there is a timeout; any that does arguments of a text; nothing,
+-- which is FOR's as an argument; and the turns of a parameter of FOR, with its index, the parameters after it, and the rest of the line
 pub data Ending : Type 0 where
   Assign : Ending
   Show : Ending
@@ -101,6 +123,11 @@ pub data Ending : Type 0 where
   Run : Ending
   Enter : EntryTree → (is_listed : Bool) → Ending
   Go : EntryTree → Ending
+  Kill : Ending
+  Lock : LockKindTree → (is_timed : Bool) → Ending
+  Indirect : FormTree → Ending
+  Nothing : Ending
+  Loop : Text → List ParameterTree → List CommandTree → Ending
 
 pub record Program : Type 0 where
   pub steps : List Op
@@ -203,6 +230,17 @@ step x Seek (found r ∷ st) = do
 step x Query (some_values vs ∷ sought p ∷ st) = do
   v ← direction_of (slice_get vs 0) >>= (λ d. query_at x.account d p)
   on_top st (one_value v)
+step x Targets st = on_top st (made [])
+step x Target (found r ∷ made ps ∷ st) = on_top st (made (ps ++ whole r ∷ []))
+step x (Part word) (some_values vs ∷ found r ∷ made ps ∷ st) = on_top st (made (ps ++ partial (function_of word) r vs ∷ []))
+step x Names st = on_top st (some_names [])
+step x Name (found r ∷ some_names ns ∷ st) = do
+  n ← named_lock x.account r
+  on_top st (some_names (ns ++ n ∷ []))
+step x Numbers st = on_top st (some_numbers [])
+step x Number (one_value v ∷ some_numbers ns ∷ st) = do
+  n ← as_number v
+  on_top st (some_numbers (ns ++ n ∷ []))
 step x (Refuse c) st = fail c
 step x o st = fail Zsyntax
 
@@ -214,6 +252,29 @@ listed true = bare_list
 abbrev pub is_list : ActualsTree → Bool
 is_list no_actuals = false
 is_list (actuals a rest) = true
+
+-- LOCK of names that are all evaluated, and of a timeout
+abbrev pub lock_done : LockKindTree → List LockName → Option Text → Act (Unit {0})
+lock_done k ns timeout = do
+  b ← locks.carried k ns
+  locks.told timeout b
+
+-- how the turns of a start go on by an increment, unless it is beyond the limit
+abbrev pub begun_within : ℤ → ℤ → ℤ → Option Course
+begun_within a by limit = cond (is_past by a limit) None (Some (limited by limit))
+
+-- the index of a FOR gets its first value, from what a parameter of it leaves: how its turns go on, if there is one
+abbrev pub looped : Text → Item → Act (Option Course)
+looped index (one_value v) = put_at (at_local index []) v >> give (Some last_turn)
+looped index (some_numbers (a ∷ by ∷ [])) = put_at (at_local index []) (number_text a) >> give (Some (endless by))
+looped index (some_numbers (a ∷ by ∷ limit ∷ [])) = put_at (at_local index []) (number_text a) >> give (begun_within a by limit)
+looped index i = fail Zsyntax
+
+-- these turns, or the parameters after them
+abbrev pub turned : Context → Ending → Option Course → Act Completion
+turned x (Loop index rest body) None = next_parameter x index body rest
+turned x (Loop index rest body) (Some c) = begin_turn x (record { index = index; course = c; parameters = rest; body = body })
+turned x k c = fail Zsyntax
 
 abbrev pub ended_by : Context → Ending → List Item → Act Completion
 ended_by x Assign (one_value v ∷ made ps ∷ st) = all_assigned v ps >> give Go_on
@@ -229,6 +290,12 @@ ended_by x Return (one_value v ∷ st) = give (Returns v)
 ended_by x Run (one_value v ∷ st) = text_executed x v
 ended_by x (Enter e is_listed) (handing b bs ∷ st) = entering x e (listed is_listed) bs leaves
 ended_by x (Go e) st = going x e
+ended_by x Kill (found r ∷ st) = (resolve writing r >>= kill_at) >> give Go_on
+ended_by x (Lock k true) (one_value v ∷ some_names ns ∷ st) = lock_done k ns (Some v) >> give Go_on
+ended_by x (Lock k false) (some_names ns ∷ st) = lock_done k ns None >> give Go_on
+ended_by x (Indirect f) (one_value v ∷ st) = given_by x f v
+ended_by x Nothing st = give Go_on
+ended_by x (Loop index rest body) (i ∷ st) = looped index i >>= turned x (Loop index rest body)
 ended_by x k st = fail Zsyntax
 
 -- ---- what a program does
@@ -253,17 +320,23 @@ carried x ops k st = carried_past x 0 ops k st
 
 -- ---- what is done up to where a level opens
 
--- how far a program comes by itself: to its end; to a call of a function, with what is left of the program and of the stack; or to the
--- level of a DO or of an XECUTE
+-- how far a program comes by itself: to its end; to a call of a function, with what is left of the program and of the stack; to the level
+-- of a DO or of an XECUTE; to the arguments that a text has; or to the turns of a parameter of FOR, if there is one
 pub data Pause : Type 0 where
   over : Completion → Pause
   calls : EntryTree → Bool → List Binding → List Op → List Item → Pause
   enters : EntryTree → (is_listed : Bool) → List Binding → Pause
   executes : Text → Pause
+  lists : FormTree → Text → Pause
+  turns : Option Course → Pause
 
 abbrev pub end_begun : Context → Ending → List Item → Act Pause
 end_begun x (Enter e is_listed) (handing b bs ∷ st) = give (enters e is_listed bs)
 end_begun x Run (one_value v ∷ st) = give (executes v)
+end_begun x (Indirect f) (one_value v ∷ st) = give (lists f v)
+end_begun x (Loop index rest body) (i ∷ st) = do
+  c ← looped index i
+  give (turns c)
 end_begun x k st = do
   s ← ended_by x k st
   give (over s)
@@ -354,6 +427,32 @@ abbrev mutual
   of_actuals no_actuals ops = ops
   of_actuals (actuals a rest) ops = of_actual a (of_actuals rest ops)
 
+abbrev pub of_target : TargetTree → List Op → List Op
+of_target (variable r) ops = of_reference r (Target ∷ ops)
+of_target (part word r more) ops = of_reference r (Values ∷ of_values more (Part word ∷ ops))
+
+abbrev pub of_targets : List TargetTree → List Op → List Op
+of_targets [] ops = ops
+of_targets (t ∷ ts) ops = of_target t (of_targets ts ops)
+
+abbrev pub of_destination : DestinationTree → List Op → List Op
+of_destination d ops = cond (has_call_destination d) (Targets ∷ of_targets (targets d) ops) (Prepare d ∷ ops)
+
+abbrev pub of_names : List ReferenceTree → List Op → List Op
+of_names [] ops = ops
+of_names (r ∷ rs) ops = of_reference r (Name ∷ of_names rs ops)
+
+-- the value of a timeout, if there is one
+abbrev pub of_timeout : Option ExprTree → List Op → List Op
+of_timeout None ops = ops
+of_timeout (Some e) ops = of_value e ops
+
+-- those of a parameter of FOR, which become numbers at once, unless it is one value
+abbrev pub of_parameter : ParameterTree → List Op → List Op
+of_parameter (once e) ops = of_value e ops
+of_parameter (onward e by) ops = Numbers ∷ of_value e (Number ∷ of_value by (Number ∷ ops))
+of_parameter (until e by to) ops = Numbers ∷ of_value e (Number ∷ of_value by (Number ∷ of_value to (Number ∷ ops)))
+
 abbrev pub of_list : ActualsTree → List Op → List Op
 of_list xs ops = cond (is_bare xs) ops (of_actuals xs ops)
 
@@ -366,27 +465,32 @@ abbrev pub program_if : Bool → List Op → Ending → Option Program
 program_if true ops k = Some (record { steps = ops; ending = k })
 program_if false ops k = None
 
--- The program of an argument, if its calls stand where steps are. There is none for KILL, NEW, FOR and LOCK, nor for arguments that a text
--- gives.
+-- The program of an argument, if its calls stand where steps are. There is none for NEW, and KILL of others. That of FOR does nothing, since its
+-- parameters have programs of their own.
 abbrev pub program_of : ArgTree → Option Program
-program_of (assign d e) = program_if (in_steps_arg (assign d e)) (Prepare d ∷ of_value e []) Assign
+program_of (assign d e) = program_if (in_steps_arg (assign d e)) (of_destination d (of_value e [])) Assign
 program_of (formats run None) = None
 program_of (formats run (Some e)) = program_if (in_steps e) (Formats run ∷ of_value e []) Tab
 program_of (coded e) = program_if (in_steps e) (of_value e []) Character
 program_of (shown e) = program_if (in_steps e) (of_value e []) Show
-program_of (kill_one r) = None
+program_of (kill_one r) = program_if (in_steps_reference r) (of_reference r []) Kill
 program_of (kill_others names) = None
 program_of (new_one name) = None
 program_of (new_others names) = None
 program_of (tested e) = program_if (in_steps e) (of_value e []) Test
-program_of (loop index parameters) = None
+program_of (loop index parameters) = program_if (in_steps_arg (loop index parameters)) [] Nothing
 program_of (do_one e xs c) = program_if (in_steps_arg (do_one e xs c)) (of_condition c (Begin ∷ of_list xs [])) (Enter e (is_list xs))
 program_of (go_to e c) = program_if (in_steps_optional c) (of_condition c []) (Go e)
 program_of (executed e c) = program_if (in_steps_arg (executed e c)) (of_condition c (of_value e [])) Run
-program_of (locked k names t) = None
+program_of (locked k names t) =
+    program_if (in_steps_arg (locked k names t)) (Names ∷ of_names (locks.names_of names) (of_timeout t [])) (Lock k (is_some t))
 program_of (hang_for e) = program_if (in_steps e) (of_value e []) Wait
 program_of (returned e) = program_if (in_steps e) (of_value e []) Return
-program_of (indirect_args f p) = None
+program_of (indirect_args f p) = program_if (in_steps_primary p) (of_primary p []) (Indirect f)
+
+-- that of a parameter of FOR, before those after it and the rest of the line
+abbrev pub program_of_parameter : Text → ParameterTree → List ParameterTree → List CommandTree → Option Program
+program_of_parameter index q rest body = program_if (in_steps_parameter q) (of_parameter q []) (Loop index rest body)
 
 -- that of a command's condition, which goes on if it is true
 abbrev pub program_of_condition : ExprTree → Option Program

@@ -1,7 +1,7 @@
 // SPDX-License-Identifier: Apache-2.0
 // The laws of programs. Each function's contract is the law, and its body is empty: the code never calls them.
 ghost use Rattle.mmeaning.specs.ProgramLaws.{ArgumentsPause, ConditionsGoOn, ConditionsPause, ProgramsAreThere, ProgramsCarryArguments};
-ghost use Rattle.mmeaning.specs.ProgramLaws.{ProgramsCarryConditions};
+ghost use Rattle.mmeaning.specs.ProgramLaws.{ParametersPause, ProgramsCarryConditions, ProgramsCarryParameters};
 ghost use Rattle.mmeaning.specs.ProgramLaws.{ProgramsPause, ProgramsTakeValues, StepsEvaluate, StepsFind};
 
 /// The steps of an expression evaluate it, whatever comes after them, and whatever else is on the stack.
@@ -29,6 +29,11 @@ pub fn programs_carry_conditions()
     ensures { ProgramsCarryConditions }
 {}
 
+/// A parameter of FOR leads to what its program leads to.
+pub fn programs_carry_parameters()
+    ensures { ProgramsCarryParameters }
+{}
+
 /// A program does what it does up to the first level that it opens, and then what that level leads to.
 pub fn programs_pause()
     ensures { ProgramsPause }
@@ -52,4 +57,9 @@ pub fn arguments_pause()
 /// What a condition with a program leads to is done on top of its command.
 pub fn conditions_pause()
     ensures { ConditionsPause }
+{}
+
+/// What a parameter of FOR with a program leads to comes after the functions in it.
+pub fn parameters_pause()
+    ensures { ParametersPause }
 {}

@@ -1,13 +1,14 @@
 // SPDX-License-Identifier: Apache-2.0
 // Whether a tree has a call of a function in it, and whether each stands where it can be carried out a step at a time.
 ghost use Rattle.std.specs.Prelude.{◌≡◌, ◌||◌, ◌&&◌, not, map};
-ghost use Rattle.std.specs.List.{list_any};
+ghost use Rattle.std.specs.List.{list_all, list_any};
 ghost use Rattle.mgrammar.specs.Grammar.{tails_of, exprs_of, choices_of, actuals_of};
 ghost use Rattle.mgrammar.specs.CallsIn.{has_call, has_call_tails, has_call_tail, has_call_operand, has_call_primary, has_call_reference, has_call_exprs};
 ghost use Rattle.mgrammar.specs.CallsIn.{has_call_choices, has_call_actual, has_call_actuals, has_call_optional, has_call_target, has_call_destination};
 ghost use Rattle.mgrammar.specs.CallsIn.{has_call_parameter, has_call_locked, has_call_arg};
 ghost use Rattle.mgrammar.specs.ProgramsIn.{in_steps, in_steps_tails, in_steps_tail, in_steps_operand, in_steps_primary, in_steps_reference, in_steps_exprs};
-ghost use Rattle.mgrammar.specs.ProgramsIn.{in_steps_choices, in_steps_actual, in_steps_actuals, in_steps_optional, in_steps_arg};
+ghost use Rattle.mgrammar.specs.ProgramsIn.{in_steps_choices, in_steps_actual, in_steps_actuals, in_steps_optional, in_steps_target, in_steps_destination};
+ghost use Rattle.mgrammar.specs.ProgramsIn.{in_steps_parameter, in_steps_locked, in_steps_arg};
 ghost use Rattle.mtree.specs.Tree.{expr_tree, tail_tree, operand_tree, primary_tree, reference_tree, referring_tree, choice_tree, actual_tree, part_tree};
 ghost use Rattle.mtree.specs.Tree.{target_tree, destination_tree, parameter_tree, locked_tree, arg_tree, condition_tree};
 
@@ -199,7 +200,8 @@ fn has_call_targets(targets: &[Target]) -> bool
     found
 }
 
-fn has_call_destination(destination: &Destination) -> bool
+/// Whether a function is called in what SET assigns to. Takes no memory.
+pub fn has_call_destination(destination: &Destination) -> bool
     ensures { result ≡ has_call_destination (destination_tree destination.now) }
 {
     match destination {
@@ -208,7 +210,8 @@ fn has_call_destination(destination: &Destination) -> bool
     }
 }
 
-fn has_call_parameter(parameter: &Parameter) -> bool
+/// Whether a function is called in a parameter of FOR. Takes no memory.
+pub fn has_call_parameter(parameter: &Parameter) -> bool
     ensures { result ≡ has_call_parameter (parameter_tree parameter.now) }
 {
     match parameter {
@@ -437,23 +440,104 @@ pub(crate) fn in_steps_optional(condition: &Option<Box<Expr>>) -> bool
     }
 }
 
-// And of an argument of a command: no call stands in a target of SET, in the parameters of FOR, or in what KILL and LOCK name.
+fn in_steps_part(part: &PartTarget) -> bool
+    ensures { result ≡ in_steps_target (part_tree part.now) }
+{
+    both(
+        in_steps_reference(&part.reference),
+        in_steps_exprs(&part.more),
+    )
+}
+
+fn in_steps_target(target: &Target) -> bool
+    ensures { result ≡ in_steps_target (target_tree target.now) }
+{
+    match target {
+        Target::Variable(reference) => in_steps_reference(reference),
+        Target::Part(part) => in_steps_part(part),
+    }
+}
+
+#[tactic(auto, using(crate::proofs::CallsFound::both_more))]
+fn in_steps_targets(targets: &[Target]) -> bool
+    ensures { result ≡ list_all in_steps_target (map target_tree targets.now) }
+{
+    let mut all = true;
+    for target in targets {
+        all = both(all, in_steps_target(target));
+    }
+    all
+}
+
+fn in_steps_destination(destination: &Destination) -> bool
+    ensures { result ≡ in_steps_destination (destination_tree destination.now) }
+{
+    match destination {
+        Destination::One(target) => in_steps_target(target),
+        Destination::Several(targets) => in_steps_targets(targets),
+    }
+}
+
+fn in_steps_parameter(parameter: &Parameter) -> bool
+    ensures { result ≡ in_steps_parameter (parameter_tree parameter.now) }
+{
+    match parameter {
+        Parameter::Once(value) => in_steps(value),
+        Parameter::Onward(start, step) => both(in_steps(start), in_steps(step)),
+        Parameter::Until(start, step, limit) => {
+            both(in_steps(start), both(in_steps(step), in_steps(limit)))
+        }
+    }
+}
+
+#[tactic(auto, using(crate::proofs::CallsFound::both_more))]
+fn in_steps_parameters(parameters: &[Parameter]) -> bool
+    ensures { result ≡ list_all in_steps_parameter (map parameter_tree parameters.now) }
+{
+    let mut all = true;
+    for parameter in parameters {
+        all = both(all, in_steps_parameter(parameter));
+    }
+    all
+}
+
+#[tactic(auto, using(crate::proofs::CallsFound::both_more))]
+fn in_steps_references(references: &[Reference]) -> bool
+    ensures { result ≡ list_all in_steps_reference (map reference_tree references.now) }
+{
+    let mut all = true;
+    for reference in references {
+        all = both(all, in_steps_reference(reference));
+    }
+    all
+}
+
+fn in_steps_locked(locked: &Locked) -> bool
+    ensures { result ≡ in_steps_locked (locked_tree locked.now) }
+{
+    match locked {
+        Locked::One(reference) => in_steps_reference(reference),
+        Locked::Several(references) => in_steps_references(references),
+    }
+}
+
+// And of an argument of a command.
 pub(crate) fn in_steps_arg(arg: &Arg) -> bool
     ensures { result ≡ in_steps_arg (arg_tree arg.now) }
 {
     match arg {
         Arg::Assign(destination, value) => {
-            both(!has_call_destination(destination), in_steps(value))
+            both(in_steps_destination(destination), in_steps(value))
         }
         Arg::Formats(_, tab) => in_steps_optional(tab),
         Arg::Coded(code) => in_steps(code),
         Arg::Value(value) => in_steps(value),
-        Arg::KillOne(reference) => !has_call_reference(reference),
+        Arg::KillOne(reference) => in_steps_reference(reference),
         Arg::KillOthers(_) => true,
         Arg::NewOne(_) => true,
         Arg::NewOthers(_) => true,
         Arg::Tested(condition) => in_steps(condition),
-        Arg::Loop(_, parameters) => !has_call_parameters(parameters),
+        Arg::Loop(_, parameters) => in_steps_parameters(parameters),
         Arg::DoOne(called, condition) => {
             both(
                 in_steps_actuals(&called.actuals),
@@ -462,9 +546,9 @@ pub(crate) fn in_steps_arg(arg: &Arg) -> bool
         }
         Arg::GoTo(_, condition) => in_steps_optional(condition),
         Arg::Executed(text, condition) => both(in_steps(text), in_steps_optional(condition)),
-        Arg::Lock(_, names, timeout) => !either(has_call_locked(names), has_call_optional(timeout)),
+        Arg::Lock(_, names, timeout) => both(in_steps_locked(names), in_steps_optional(timeout)),
         Arg::HangFor(seconds) => in_steps(seconds),
         Arg::Returned(value) => in_steps(value),
-        Arg::Indirect(_, operand) => !has_call_primary(operand),
+        Arg::Indirect(_, operand) => in_steps_primary(operand),
     }
 }

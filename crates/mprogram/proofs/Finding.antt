@@ -10,21 +10,28 @@ use Rattle.mgrammar.specs.Grammar.{no_choices, choice, ActualTree, missing_actua
 use Rattle.mgrammar.specs.Grammar.{no_actuals, actuals, ArgTree, assign, formats, coded, shown, kill_one, kill_others, new_one, new_others, tested, loop}
 use Rattle.mgrammar.specs.Grammar.{do_one, go_to, executed, locked, hang_for, returned, indirect_args}
 use Rattle.mgrammar.specs.Functions as functions
-use Rattle.mgrammar.specs.Functions.{data_function, get_function, name_function, order_function, query_function, FunctionTree, of_variable, function_of}
-use Rattle.mgrammar.specs.CallsIn.{has_call, has_call_operand, has_call_primary}
+use Rattle.mgrammar.specs.Functions.{data_function, get_function, name_function, order_function, FunctionTree, of_variable, function_of}
+use Rattle.mgrammar.specs.Grammar.{TargetTree, variable, part, DestinationTree, ParameterTree, once, onward, until}
+use Rattle.mmeaning.specs.LineMeaning.{targets}
+use Rattle.mmeaning.specs.Locking.{names_of}
+use Rattle.mmeaning.specs.Programs.{Targets, Target, Part, Names, Name, Numbers, Number, of_target, of_targets, of_destination, of_names, of_timeout}
+use Rattle.mprogram.specs.Found.{in_target, in_targets, in_destination, in_names, in_timeout, in_number, in_onward, in_parameter}
+use Rattle.mgrammar.specs.CallsIn.{has_call_destination, has_call, has_call_operand, has_call_primary}
 use Rattle.mmeaning.specs.Expression.{is_bare}
 use Rattle.mmeaning.specs.Programs as programs
 use Rattle.mmeaning.specs.Programs.{Op, Spend, Join, Raise, Match, Match_not, Values, Add, Function, Begin, Hand, Hand_name, Call, Where, Formats, Prepare}
-use Rattle.mmeaning.specs.Programs.{Local, Global, Naked, Extended, Named, Read, Data, Resolve, Get, Walk, Order, Tell_name, Seek, Query, signed, referred}
-use Rattle.mmeaning.specs.Programs.{of_value, of_tails, of_tail, of_operand, of_primary, of_reference, of_values, of_choices, of_actual, of_actuals, of_list}
-use Rattle.mprogram.specs.Wholes.{WholeTree, of_argument, of_condition, steps_of, steps_of_argument}
+use Rattle.mmeaning.specs.Programs.{Local, Global, Naked, Extended, Named, Read, Data, Resolve, Get, Walk, Order, Tell_name, signed, referred, of_value}
+use Rattle.mmeaning.specs.Programs.{of_tails, of_tail, of_operand, of_primary, of_reference, of_values, of_choices, of_actual, of_actuals, of_list}
+use Rattle.mprogram.specs.Wholes.{WholeTree, of_argument, of_condition, of_parameter, steps_of, steps_of_argument}
+use Rattle.mgrammar.specs.Functions.{query_function}
+use Rattle.mmeaning.specs.Programs.{Seek, Query}
 use Rattle.mprogram.specs.Found.{FoundTree, step, past, found_then, found_before, single, both, in_referred, passing_value, passing_choices, in_signs}
 use Rattle.mprogram.specs.Found.{in_value, in_tails, in_tail, in_operand, in_primary, in_reference, in_choices, in_values, in_actual, in_actuals}
 use Rattle.mprogram.specs.Found.{in_list, in_condition, in_argument, in_whole}
 
 -- the step at this number, in a part of a list before whatever comes after it
 abbrev pub Finds : (List Op → List Op) → (ℕ → FoundTree) → Type 0
-Finds part found = (at : ℕ) (rest : List Op) → slice_get (part rest) at ≡ found_before (found at) rest
+Finds steps found = (at : ℕ) (rest : List Op) → slice_get (steps rest) at ≡ found_before (found at) rest
 
 -- one part before another
 then_finds : (f g : List Op → List Op) (p q : ℕ → FoundTree) → Finds f p → Finds g q → Finds (λ rest. f (g rest)) (λ at. found_then (p at) q)
@@ -204,13 +211,55 @@ condition_finds : (c : Option ExprTree) → Finds (programs.of_condition c) (in_
 condition_finds None = none_finds
 condition_finds (Some e) = before_finds (of_value e) (in_value e) Where (value_finds e)
 
+target_finds : (t : TargetTree) → Finds (of_target t) (in_target t)
+target_finds (variable r) = before_finds (of_reference r) (in_reference r) Target (reference_finds r)
+target_finds (part word r more) =
+    then_finds (λ rest. of_reference r (Values ∷ rest)) (λ rest. of_values more (Part word ∷ rest))
+    (λ at. found_then (in_reference r at) (single Values)) (λ left. found_then (in_values more left) (single (Part word)))
+    (before_finds (of_reference r) (in_reference r) Values (reference_finds r)) (before_finds (of_values more) (in_values more) (Part word) (values_find more))
+
+targets_find : (ts : List TargetTree) → Finds (of_targets ts) (in_targets ts)
+targets_find [] = none_finds
+targets_find (t ∷ ts) = then_finds (of_target t) (of_targets ts) (in_target t) (in_targets ts) (target_finds t) (targets_find ts)
+
+destination_finds : (d : DestinationTree) → Finds (of_destination d) (in_destination d)
+destination_finds d =
+    cond_finds (has_call_destination d) (λ rest. Targets ∷ of_targets (targets d) rest) (λ rest. Prepare d ∷ rest)
+    (λ at. found_then (single Targets at) (in_targets (targets d))) (single (Prepare d))
+    (step_finds Targets (of_targets (targets d)) (in_targets (targets d)) (targets_find (targets d))) (single_finds _)
+
+names_find : (rs : List ReferenceTree) → Finds (of_names rs) (in_names rs)
+names_find [] = none_finds
+names_find (r ∷ rs) =
+    then_finds (λ rest. of_reference r (Name ∷ rest)) (of_names rs) (λ at. found_then (in_reference r at) (single Name)) (in_names rs)
+    (before_finds (of_reference r) (in_reference r) Name (reference_finds r)) (names_find rs)
+
+timeout_finds : (t : Option ExprTree) → Finds (of_timeout t) (in_timeout t)
+timeout_finds None = none_finds
+timeout_finds (Some e) = value_finds e
+
+number_finds : (e : ExprTree) → Finds (λ rest. of_value e (Number ∷ rest)) (in_number e)
+number_finds e = before_finds (of_value e) (in_value e) Number (value_finds e)
+
+onward_finds : (e by : ExprTree) → Finds (λ rest. Numbers ∷ of_value e (Number ∷ of_value by (Number ∷ rest))) (in_onward e by)
+onward_finds e by =
+    step_finds Numbers (λ rest. of_value e (Number ∷ of_value by (Number ∷ rest))) (λ left. found_then (in_number e left) (in_number by))
+    (then_finds (λ rest. of_value e (Number ∷ rest)) (λ rest. of_value by (Number ∷ rest)) (in_number e) (in_number by) (number_finds e) (number_finds by))
+
+parameter_finds : (q : ParameterTree) → Finds (programs.of_parameter q) (in_parameter q)
+parameter_finds (once e) = value_finds e
+parameter_finds (onward e by) = onward_finds e by
+parameter_finds (until e by to) =
+    then_finds (λ rest. Numbers ∷ of_value e (Number ∷ of_value by (Number ∷ rest))) (λ rest. of_value to (Number ∷ rest)) (in_onward e by) (in_number to)
+    (onward_finds e by) (number_finds to)
+
 argument_found : (a : ArgTree) (at : ℕ) → slice_get (steps_of_argument a) at ≡ found_before (in_argument a at) []
-argument_found (assign d e) at = step_finds (Prepare d) (of_value e) (in_value e) (value_finds e) at []
+argument_found (assign d e) at = then_finds (of_destination d) (of_value e) (in_destination d) (in_value e) (destination_finds d) (value_finds e) at []
 argument_found (formats run None) at = refl
 argument_found (formats run (Some e)) at = step_finds (Formats run) (of_value e) (in_value e) (value_finds e) at []
 argument_found (coded e) at = value_finds e at []
 argument_found (shown e) at = value_finds e at []
-argument_found (kill_one r) at = refl
+argument_found (kill_one r) at = reference_finds r at []
 argument_found (kill_others names) at = refl
 argument_found (new_one name) at = refl
 argument_found (new_others names) at = refl
@@ -221,12 +270,15 @@ argument_found (do_one e xs c) at =
     (condition_finds c) (step_finds Begin (of_list xs) (in_list xs) (list_finds xs)) at []
 argument_found (go_to e c) at = condition_finds c at []
 argument_found (executed e c) at = then_finds (programs.of_condition c) (of_value e) (in_condition c) (in_value e) (condition_finds c) (value_finds e) at []
-argument_found (locked k names t) at = refl
+argument_found (locked k names t) at =
+    step_finds Names (λ rest. of_names (names_of names) (of_timeout t rest)) (λ left. found_then (in_names (names_of names) left) (in_timeout t))
+    (then_finds (of_names (names_of names)) (of_timeout t) (in_names (names_of names)) (in_timeout t) (names_find (names_of names)) (timeout_finds t)) at []
 argument_found (hang_for e) at = value_finds e at []
 argument_found (returned e) at = value_finds e at []
-argument_found (indirect_args f p) at = refl
+argument_found (indirect_args f p) at = primary_finds p at []
 
--- the step of an argument or of a condition
+-- the step of an argument, of a condition, or of a parameter
 pub whole_found : (w : WholeTree) (at : ℕ) → slice_get (steps_of w) at ≡ found_before (in_whole w at) []
 whole_found (of_argument a) at = argument_found a at
 whole_found (of_condition e) at = value_finds e at []
+whole_found (of_parameter index q rest body) at = parameter_finds q at []

@@ -7,14 +7,20 @@ use Rattle.mgrammar.specs.Grammar.{SignTree, ExprTree, expr, TailsTree, no_tails
 use Rattle.mgrammar.specs.Grammar.{matches_not_indirect, OperandTree, operand, PrimaryTree, number, text, special, reference, bracket, call, select, refer}
 use Rattle.mgrammar.specs.Grammar.{extrinsic, ReferenceTree, local, global, naked, indirect, extended, ExprsTree, no_exprs, exprs, ChoicesTree}
 use Rattle.mgrammar.specs.Grammar.{no_choices, choice, ActualTree, missing_actual, value_actual, name_actual, indirect_actual, ActualsTree}
-use Rattle.mgrammar.specs.Grammar.{no_actuals, actuals, ArgTree, assign, formats, coded, shown, tested, do_one, go_to, executed, hang_for, returned}
-use Rattle.mgrammar.specs.Functions.{data_function, get_function, name_function, order_function, query_function, FunctionTree, of_variable, function_of}
-use Rattle.mgrammar.specs.CallsIn.{has_call, has_call_operand, has_call_primary}
+use Rattle.mgrammar.specs.Grammar.{no_actuals, actuals, TargetTree, variable, part, DestinationTree, ArgTree, assign, formats, coded, shown, kill_one}
+use Rattle.mgrammar.specs.Grammar.{tested, do_one, go_to, executed, locked, hang_for, returned, indirect_args, ParameterTree, once, onward, until}
+use Rattle.mgrammar.specs.Functions.{data_function, get_function, name_function, order_function, FunctionTree, of_variable, function_of}
+use Rattle.mgrammar.specs.CallsIn.{has_call, has_call_operand, has_call_primary, has_call_destination}
+use Rattle.mmeaning.specs.LineMeaning.{targets}
+use Rattle.mmeaning.specs.Locking.{names_of}
 use Rattle.mmeaning.specs.Expression.{is_bare}
 use Rattle.mmeaning.specs.Programs.{Op, Operand, Tail, Spend, Sign, Join, Raise, Match, Match_not, Values, Add, Function, Begin, Actual, Hand, Hand_name}
 use Rattle.mmeaning.specs.Programs.{Call, Where, Formats, Prepare, Local, Global, Naked, Extended, Named, Read, Data, Resolve, Get, Walk, Order, Unless, Pass}
-use Rattle.mmeaning.specs.Programs.{Tell_name, Seek, Query, Refuse, of_value, of_choices}
-use Rattle.mprogram.specs.Wholes.{WholeTree, of_argument, of_condition}
+use Rattle.mmeaning.specs.Programs.{Targets, Target, Part, Names, Name, Numbers, Number}
+use Rattle.mmeaning.specs.Programs.{Tell_name, Refuse, of_value, of_choices}
+use Rattle.mprogram.specs.Wholes.{WholeTree, of_argument, of_condition, of_parameter}
+use Rattle.mgrammar.specs.Functions.{query_function}
+use Rattle.mmeaning.specs.Programs.{Seek, Query}
 
 pub data FoundTree : Type 0 where
   step : Op → FoundTree
@@ -122,26 +128,61 @@ in_list xs at = cond (is_bare xs) (past at) (in_actuals xs at)
 
 -- ---- arguments and conditions
 
+abbrev pub in_target : TargetTree → ℕ → FoundTree
+in_target (variable r) at = found_then (in_reference r at) (single Target)
+in_target (part word r more) at =
+    found_then (found_then (in_reference r at) (single Values)) (λ left. found_then (in_values more left) (single (Part word)))
+
+abbrev pub in_targets : List TargetTree → ℕ → FoundTree
+in_targets [] at = past at
+in_targets (t ∷ ts) at = found_then (in_target t at) (in_targets ts)
+
+abbrev pub in_destination : DestinationTree → ℕ → FoundTree
+in_destination d at = cond (has_call_destination d) (found_then (single Targets at) (in_targets (targets d))) (single (Prepare d) at)
+
+abbrev pub in_names : List ReferenceTree → ℕ → FoundTree
+in_names [] at = past at
+in_names (r ∷ rs) at = found_then (found_then (in_reference r at) (single Name)) (in_names rs)
+
+abbrev pub in_timeout : Option ExprTree → ℕ → FoundTree
+in_timeout None at = past at
+in_timeout (Some e) at = in_value e at
+
+abbrev pub in_number : ExprTree → ℕ → FoundTree
+in_number e at = found_then (in_value e at) (single Number)
+
+abbrev pub in_onward : ExprTree → ExprTree → ℕ → FoundTree
+in_onward e by at = found_then (single Numbers at) (λ left. found_then (in_number e left) (in_number by))
+
+abbrev pub in_parameter : ParameterTree → ℕ → FoundTree
+in_parameter (once e) at = in_value e at
+in_parameter (onward e by) at = in_onward e by at
+in_parameter (until e by to) at = found_then (in_onward e by at) (in_number to)
+
 abbrev pub in_condition : Option ExprTree → ℕ → FoundTree
 in_condition None at = past at
 in_condition (Some e) at = found_then (in_value e at) (single Where)
 
 abbrev pub in_argument : ArgTree → ℕ → FoundTree
-in_argument (assign d e) at = found_then (single (Prepare d) at) (in_value e)
+in_argument (assign d e) at = found_then (in_destination d at) (in_value e)
 in_argument (formats run (Some e)) at = found_then (single (Formats run) at) (in_value e)
 in_argument (coded e) at = in_value e at
 in_argument (shown e) at = in_value e at
+in_argument (kill_one r) at = in_reference r at
 in_argument (tested e) at = in_value e at
 in_argument (do_one e xs c) at = found_then (in_condition c at) (λ left. found_then (single Begin left) (in_list xs))
 in_argument (go_to e c) at = in_condition c at
 in_argument (executed e c) at = found_then (in_condition c at) (in_value e)
+in_argument (locked k names t) at = found_then (single Names at) (λ left. found_then (in_names (names_of names) left) (in_timeout t))
 in_argument (hang_for e) at = in_value e at
 in_argument (returned e) at = in_value e at
+in_argument (indirect_args f p) at = in_primary p at
 in_argument a at = past at
 
 abbrev pub in_whole : WholeTree → ℕ → FoundTree
 in_whole (of_argument a) at = in_argument a at
 in_whole (of_condition e) at = in_value e at
+in_whole (of_parameter index q rest body) at = in_parameter q at
 
 -- ---- in a list
 

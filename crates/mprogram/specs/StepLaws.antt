@@ -1,11 +1,12 @@
 -- SPDX-License-Identifier: Apache-2.0
 -- The laws of steps, as statements. The functions of src/ named after them carry them.
-use Rattle.std.specs.Prelude.{◌≡◌, true, Some}
-use Rattle.mgrammar.specs.Grammar.{ExprTree, ArgTree}
+use Rattle.std.specs.Prelude.{◌≡◌, true, List, Some}
+use Rattle.mspec.specs.Act.{Text}
+use Rattle.mgrammar.specs.Grammar.{ExprTree, ParameterTree, CommandTree, ArgTree}
 use Rattle.mgrammar.specs.CallsIn.{has_call_arg}
-use Rattle.mgrammar.specs.ProgramsIn.{in_steps, in_steps_arg}
-use Rattle.mmeaning.specs.Programs.{Program, program_of, program_of_condition}
-use Rattle.mprogram.specs.Wholes.{WholeTree, of_argument, of_condition, steps_of, ending_of}
+use Rattle.mgrammar.specs.ProgramsIn.{in_steps, in_steps_parameter, in_steps_arg}
+use Rattle.mmeaning.specs.Programs.{Program, program_of, program_of_condition, program_of_parameter}
+use Rattle.mprogram.specs.Wholes.{WholeTree, of_argument, of_condition, of_parameter, steps_of, ending_of}
 
 -- the program that has these steps and this ending
 abbrev pub whole_program : WholeTree → Program
@@ -28,3 +29,9 @@ CallsHavePrograms = (a : ArgTree) → has_call_arg a ≡ true → in_steps_arg a
 -- and so a condition
 abbrev pub ConditionsHavePrograms : Type 0
 ConditionsHavePrograms = (e : ExprTree) → in_steps e ≡ true → program_of_condition e ≡ Some (whole_program (of_condition e))
+
+-- and so a parameter of FOR
+abbrev pub ParametersHavePrograms : Type 0
+ParametersHavePrograms =
+    (index : Text) (q : ParameterTree) (rest : List ParameterTree) (body : List CommandTree) → in_steps_parameter q ≡ true →
+    program_of_parameter index q rest body ≡ Some (whole_program (of_parameter index q rest body))

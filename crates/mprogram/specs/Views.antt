@@ -1,12 +1,15 @@
 -- SPDX-License-Identifier: Apache-2.0
 -- Steps of the code, which lend parts of a tree, as the definitions have them.
-use Rattle.std.specs.Prelude.{[], map}
+use Rattle.std.specs.Prelude.{List, [], map}
 use Rattle.mspec.specs.Code.{M4}
 use Rattle.mgrammar.specs.Grammar.{operand, exprs_of, choices_of}
 use Rattle.mmeaning.specs.Programs as programs
 use Rattle.mtree.specs.Tree.{sign_tree, binary_tree, expr_tree, tail_tree, operand_tree, primary_tree, choice_tree, actual_tree, entry_tree, destination_tree}
-use Rattle.mtree.specs.Tree.{arg_tree}
-use Rattle.mprogram.specs.Wholes.{WholeTree, of_argument, of_condition}
+use Rattle.mtree.specs.Tree.{arg_tree, kind_tree, keyword_tree, parameter_tree, spaced_tree}
+use Rattle.mtree.specs.declared.tree.Spaced.{Spaced}
+use Rattle.mgrammar.specs.Grammar.{CommandTree}
+use Rattle.mgrammar.specs.Commands.{form_of}
+use Rattle.mprogram.specs.Wholes.{WholeTree, of_argument, of_condition, of_parameter}
 use Rattle.mprogram.specs.Found.{FoundTree, step, past, passing_value, passing_choices}
 use Rattle.mprogram.specs.declared.op.Whole.{Whole}
 use Rattle.mprogram.specs.declared.op.Whole.TheVariants as whole
@@ -17,9 +20,14 @@ use Rattle.mprogram.specs.declared.op.Ending.TheVariants as ending
 use Rattle.mprogram.specs.declared.op.Found.{Found}
 use Rattle.mprogram.specs.declared.op.Found.TheVariants as found
 
+-- the rest of a line, which is the body of a FOR
+abbrev pub body_tree : List Spaced → List CommandTree
+body_tree body = map (λ c. c.0) (map spaced_tree body)
+
 abbrev pub whole_view : Whole → WholeTree
 whole_view (whole.Argument a) = of_argument (arg_tree a.now)
 whole_view (whole.Condition e) = of_condition (expr_tree e.now)
+whole_view (whole.Parameter index q rest body) = of_parameter index.now (parameter_tree q.now) (map parameter_tree rest.now) (body_tree body.now)
 
 abbrev pub op_view : Op → programs.Op
 op_view (op.Operand o) = programs.Operand (operand_tree o.now)
@@ -59,6 +67,13 @@ op_view op.Query = programs.Query
 op_view (op.Unless v) = passing_value (expr_tree v.now)
 op_view (op.Pass rest) = passing_choices (choices_of (map choice_tree rest.now))
 op_view op.NoChoice = programs.Refuse M4
+op_view op.Targets = programs.Targets
+op_view op.Target = programs.Target
+op_view (op.Part word) = programs.Part word.now
+op_view op.Names = programs.Names
+op_view op.Name = programs.Name
+op_view op.Numbers = programs.Numbers
+op_view op.Number = programs.Number
 
 abbrev pub ending_view : Ending → programs.Ending
 ending_view ending.Assign = programs.Assign
@@ -72,6 +87,11 @@ ending_view ending.Return = programs.Return
 ending_view ending.Run = programs.Run
 ending_view (ending.Enter e is_listed) = programs.Enter (entry_tree e.now) is_listed
 ending_view (ending.Go e) = programs.Go (entry_tree e.now)
+ending_view ending.Kill = programs.Kill
+ending_view (ending.Lock k is_timed) = programs.Lock (kind_tree k) is_timed
+ending_view (ending.Indirect word) = programs.Indirect (form_of (keyword_tree word))
+ending_view ending.Nothing = programs.Nothing
+ending_view (ending.Loop index rest body) = programs.Loop index.now (map parameter_tree rest.now) (body_tree body.now)
 
 abbrev pub found_view : Found → FoundTree
 found_view (found.Op o) = step (op_view o)

@@ -29,19 +29,19 @@ fn ending_of_arg<'t>(arg: &'t Arg) -> Ending<'t>
         Arg::Formats(_, None) => Ending::Hold,
         Arg::Coded(_) => Ending::Character,
         Arg::Value(_) => Ending::Show,
-        Arg::KillOne(_) => Ending::Hold,
+        Arg::KillOne(_) => Ending::Kill,
         Arg::KillOthers(_) => Ending::Hold,
         Arg::NewOne(_) => Ending::Hold,
         Arg::NewOthers(_) => Ending::Hold,
         Arg::Tested(_) => Ending::Test,
-        Arg::Loop(_, _) => Ending::Hold,
+        Arg::Loop(_, _) => Ending::Nothing,
         Arg::DoOne(called, _) => Ending::Enter(&called.entry, is_list(&called.actuals)),
         Arg::GoTo(entry, _) => Ending::Go(entry),
         Arg::Executed(_, _) => Ending::Run,
-        Arg::Lock(_, _, _) => Ending::Hold,
+        Arg::Lock(kind, _, timeout) => Ending::Lock(*kind, timeout.is_some()),
         Arg::HangFor(_) => Ending::Wait,
         Arg::Returned(_) => Ending::Return,
-        Arg::Indirect(_, _) => Ending::Hold,
+        Arg::Indirect(word, _) => Ending::Indirect(*word),
     }
 }
 
@@ -52,5 +52,6 @@ pub fn ending_of<'t>(whole: Whole<'t>) -> Ending<'t>
     match whole {
         Whole::Argument(arg) => ending_of_arg(arg),
         Whole::Condition(_) => Ending::Hold,
+        Whole::Parameter(index, _, rest, body) => Ending::Loop(index, rest, body),
     }
 }

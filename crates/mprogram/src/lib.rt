@@ -1,5 +1,5 @@
 // SPDX-License-Identifier: Apache-2.0
-//! The steps of an argument, or of a command's condition, in which functions are called.
+//! The steps of an argument, of a command's condition, or of a parameter of FOR, in which functions are called.
 //!
 //! What they are is defined in `mmeaning`: `Programs`. No list of them is kept: each is found in the tree by its number.
 #![tactic(auto)]

@@ -2,14 +2,17 @@
 // Steps, and what they are of: parts of a tree, lent by it.
 use mnum::{Bytes7, Name};
 use mtree::{
-    Actual, Arg, Binary, Choice, Destination, Entry, Expr, Operand, Primary, Sign, Tail, ValueWord,
+    Actual, Arg, Binary, Choice, Destination, Entry, Expr, Keyword, LockKind, Operand, Parameter,
+    Primary, Sign, Spaced, Tail, ValueWord,
 };
 
-/// What has steps: an argument of a command, or a command's condition.
+/// What has steps: an argument of a command; a command's condition; or a parameter of FOR, with the index before it, and the parameters and
+/// the rest of the line after it.
 #[derive(Clone, Copy)]
 pub enum Whole<'t> {
     Argument(&'t Arg),
     Condition(&'t Expr),
+    Parameter(&'t Name, &'t Parameter, &'t [Parameter], &'t [Spaced]),
 }
 
 /// A step.
@@ -89,6 +92,20 @@ pub enum Op<'t> {
     Pass(&'t [Choice]),
     /// No choice of $SELECT was true.
     NoChoice,
+    /// Begins with the targets of SET.
+    Targets,
+    /// Adds the reference on top to these.
+    Target,
+    /// Adds a part of the reference below the values on top: the word after its `$`.
+    Part(&'t ValueWord),
+    /// Begins with the names of LOCK.
+    Names,
+    /// Checks the reference on top, and adds its name to these.
+    Name,
+    /// Begins with the numbers of a parameter of FOR.
+    Numbers,
+    /// Adds the number of the value on top to these.
+    Number,
 }
 
 /// What a command does in the end with what its steps leave.
@@ -116,6 +133,16 @@ pub enum Ending<'t> {
     Enter(&'t Entry, bool),
     /// GOTO: where it leads.
     Go(&'t Entry),
+    /// KILL.
+    Kill,
+    /// LOCK: how it begins, and whether there is a timeout.
+    Lock(LockKind, bool),
+    /// The arguments that a text has: the word that the command has.
+    Indirect(Keyword),
+    /// FOR as an argument, whose parameters have steps of their own.
+    Nothing,
+    /// The turns of a parameter of FOR: the index, the parameters after it, and the rest of the line.
+    Loop(&'t Name, &'t [Parameter], &'t [Spaced]),
 }
 
 // What is found at a number in a part of a tree.

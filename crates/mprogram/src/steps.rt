@@ -124,7 +124,7 @@ fn in_operand<'t>(operand: &'t Operand, at: usize) -> Found<'t>
 }
 
 #[cycle(steps)]
-fn in_primary<'t>(primary: &'t Primary, at: usize) -> Found<'t>
+pub(crate) fn in_primary<'t>(primary: &'t Primary, at: usize) -> Found<'t>
     ensures { found_view result ≡ in_primary (primary_tree primary.now) at }
 {
     match primary {
@@ -164,7 +164,7 @@ fn in_read<'t>(reference: &'t Reference, at: usize) -> Found<'t>
 
 // Of a reference, and then this one.
 #[cycle(steps)]
-fn reference_then<'t>(reference: &'t Reference, op: Op<'t>, at: usize) -> Found<'t>
+pub(crate) fn reference_then<'t>(reference: &'t Reference, op: Op<'t>, at: usize) -> Found<'t>
     ensures { found_view result ≡ found_then (in_reference (reference_tree reference.now) at) (single (op_view op.entry)) }
 {
     match in_reference(reference, at) {
@@ -175,7 +175,7 @@ fn reference_then<'t>(reference: &'t Reference, op: Op<'t>, at: usize) -> Found<
 
 // Of what a reference has to evaluate, and of the reference.
 #[cycle(steps)]
-fn in_reference<'t>(reference: &'t Reference, at: usize) -> Found<'t>
+pub(crate) fn in_reference<'t>(reference: &'t Reference, at: usize) -> Found<'t>
     ensures { found_view result ≡ in_reference (reference_tree reference.now) at }
 {
     match reference {
@@ -222,7 +222,7 @@ fn in_subscripts<'t>(subscripts: &'t [Expr], op: Op<'t>, at: usize) -> Found<'t>
 
 // Of values, and then this one.
 #[cycle(steps)]
-fn values_then<'t>(exprs: &'t [Expr], op: Op<'t>, at: usize) -> Found<'t>
+pub(crate) fn values_then<'t>(exprs: &'t [Expr], op: Op<'t>, at: usize) -> Found<'t>
     ensures { found_view result ≡ found_then (in_values (exprs_of (map expr_tree exprs.now)) at) (single (op_view op.entry)) }
 {
     match in_values(exprs, at) {

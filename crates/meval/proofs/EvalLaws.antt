@@ -20,7 +20,7 @@ pub use Rattle.meval.proofs.Chains.{operator_refused, step_leads}
 pub use Rattle.meval.proofs.Indirections.{evaluates_behind, evaluates_deep, evaluates_entry, evaluates_unnamed, is_free, not_free}
 pub use Rattle.meval.proofs.LocalVariables.{function_failed, got, let_through, named_as, named_stopped, node_evaluated, node_failed, number_refused}
 pub use Rattle.meval.proofs.LocalVariables.{number_told, ordered_next, ordered_stopped, variable_primary, variable_told, walk_refused, walk_through}
-pub use Rattle.meval.proofs.Locks.{global_name, local_name}
+pub use Rattle.meval.proofs.Locks.{global_name, local_name, lock_name_of, lock_refused, lock_told, locks_global, locks_local, same_lock}
 pub use Rattle.meval.proofs.NodeNames.{evaluates_owned, named_local}
 pub use Rattle.meval.proofs.PowerRuns.{not_applied, not_charged, often_enough, once_more}
 pub use Rattle.meval.proofs.References.{gives_own, no_walk, node_of, not_empty, own_failed, own_told, owned, walks}

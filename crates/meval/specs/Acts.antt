@@ -1,8 +1,8 @@
 -- SPDX-License-Identifier: Apache-2.0
 -- What calls of the evaluation do, for acts that the meaning has inside larger ones.
-use Rattle.std.specs.Prelude.{ℤ, pos, Bool, List, Option, [], map, slice_get, unwrap_or}
+use Rattle.std.specs.Prelude.{ℤ, pos, Bool, List, Option, [], slice_get, unwrap_or}
 use Rattle.mspec.specs.Trees.{Direction}
-use Rattle.mspec.specs.Act.{Text, Act, ◌>>=◌, ◌>>◌, give, give_some, read_so}
+use Rattle.mspec.specs.Act.{Text, Node, Act, ◌>>=◌, ◌>>◌, give, give_some, read_so}
 use Rattle.mgrammar.specs.Grammar.{ExprTree, ExprsTree, OperandTree, PrimaryTree, ReferenceTree}
 use Rattle.mgrammar.specs.Functions.{get_function, name_function, order_function}
 use Rattle.mspec.specs.Code.{Zsyntax}
@@ -12,7 +12,7 @@ use Rattle.mmeaning.specs.Operators.{as_number, as_truth, matching}
 use Rattle.mmeaning.specs.Functions.{whole_text, whole_at, call_value}
 use Rattle.mspec.specs.LockConflict.{LockName}
 use Rattle.mmeaning.specs.Variables.{Evaluated, Place, reading, writing, ordering, resolve, named_lock, read_at, read_or, put_at, status_at, next_at}
-use Rattle.mmeaning.specs.Variables.{data_number, direction_of, named, variable_function_value}
+use Rattle.mmeaning.specs.Variables.{checked, kill_at, data_number, direction_of, named, variable_function_value}
 use Rattle.mmeaning.specs.Expression.{Inside, an_indirection_free, indirected, value, values, operand_value, primary_value, matches_text, evaluated, through}
 
 -- whether a value matches the pattern that a text is, if an indirection is free
@@ -51,11 +51,15 @@ primary_number i p = primary_value i p >>= as_number
 abbrev pub lock_name_act : Inside → ReferenceTree → Act LockName
 lock_name_act i r = evaluated i r >>= named_lock i.account
 
+-- the lock of a node whose global the account may write, or whose variable is its own
+abbrev pub lock_of : Bool → Node → Act LockName
+lock_of is_global n = checked writing n.subscripts >> give (record { global = is_global; node = n })
+
 -- the place of a reference that is read at once
 abbrev pub place_to_read : Inside → ReferenceTree → Act Place
 place_to_read i r = evaluated i r >>= resolve reading
 
--- what a read, a SET and $DATA do with what is evaluated
+-- what a read, a SET, KILL and $DATA do with what is evaluated
 abbrev pub read_act : Evaluated → Act Text
 read_act v = resolve reading v >>= read_at
 
@@ -63,6 +67,9 @@ abbrev pub put_act : Evaluated → Text → Act (Unit {0})
 put_act v x = do
   p ← resolve writing v
   put_at p x
+
+abbrev pub kill_act : Evaluated → Act (Unit {0})
+kill_act v = resolve writing v >>= kill_at
 
 -- what $DATA does with a place that may be read
 abbrev pub data_at : Place → Act Text

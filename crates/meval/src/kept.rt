@@ -1,5 +1,6 @@
 // SPDX-License-Identifier: Apache-2.0
-// Places that the checks let through, as they are kept while more is evaluated: what is called meanwhile may end, and its tree with it.
+// Places, and names of locks, that the checks let through, as they are kept while more is evaluated: what is called meanwhile may end, and its
+// tree with it.
 ghost use Rattle.std.specs.Prelude.{◌≡◌};
 ghost use Rattle.meval.specs.Held.{name_view};
 ghost use Rattle.meval.specs.Kept.{readable_view};
@@ -14,6 +15,7 @@ use crate::place::{Place, Subscripts, Walk};
 use crate::value_list::Values;
 use crate::variable_name::VariableName;
 use mkey::AccountName;
+use mlock::LockName;
 use mnum::Name;
 use moperator::Code;
 use std::alloc::Global;
@@ -69,6 +71,70 @@ pub(crate) fn readable_local(name: VariableName, values: Values) -> Result<Reada
     };
     let name = name.into_name()?;
     Ok(Readable::Local(name, subscripts))
+}
+
+/// The name of a lock that the checks let through. Contracts see it as one of the definitions.
+pub struct Lockable {
+    pub(crate) global: bool,
+    pub(crate) account: AccountName,
+    pub(crate) name: Name,
+    pub(crate) subscripts: Subscripts,
+}
+
+// Written out, so that dropping it is one call, which is proved once.
+impl Drop for Lockable {
+    fn drop(self) {
+        let Lockable {
+            global: _,
+            account: _,
+            name: _,
+            subscripts: _,
+        } = self;
+    }
+}
+
+impl Model for Lockable {
+    ghost use Rattle.mspec.specs.LockConflict.{LockName as Name};
+
+    ghost Value = { Name };
+
+    ghost view = { λ l. record { global = l.global; node = record { account = l.account; name = l.name; subscripts = l.subscripts } } };
+}
+
+impl Lockable {
+    // The lock, which no longer has its account and its name in hand.
+    fn lock(&self, alloc: Global) -> Result<LockName, Code>
+        ensures name { IfOk result (λ name. name ≡ self.now) }
+        ensures does { Yields fault_of (give self.now) (λ name. name) result }
+    {
+        let key = key_with(
+            alloc,
+            self.account.as_bytes(),
+            self.name.as_bytes7(),
+            self.subscripts.as_slice(),
+        )?;
+        Ok(LockName {
+            key,
+            global: self.global,
+        })
+    }
+}
+
+/// The locks of these names.
+///
+/// # Errors
+///
+/// `Zmem` if memory runs out.
+pub fn locks_of(alloc: Global, all: &[Lockable]) -> Result<Vec<LockName>, Code>
+    ensures names { IfOk result (λ names. names.items ≡ all.now) }
+    ensures does { Yields fault_of (give all.now) (λ names. names.items) result }
+{
+    let mut names = Vec::with_capacity(alloc, all.len())?;
+    for lockable in all {
+        let name = lockable.lock(alloc)?;
+        names.push(name)?;
+    }
+    Ok(names)
 }
 
 /// A place that the checks let through for $ORDER: its last subscript may be empty. Contracts see it as one of the definitions.

@@ -35,7 +35,7 @@ pub use eval::Eval;
 pub use found::extended_found;
 pub use global_node::GlobalNode;
 pub use global_reference::GlobalReference;
-pub use kept::{Readable, Walkable};
+pub use kept::{Lockable, Readable, Walkable, locks_of};
 pub use place::{Pending, Place, Subscripts};
 pub use querying::Seekable;
 pub use session::Session;

@@ -90,11 +90,12 @@ impl<'a, S: NodeStore> Eval<'a, S> {
     pub fn routine(&mut self, alloc: Global, name: &Name) -> Result<Rc<Vec<Bytes7>>, Code>
         ensures { Evaluates S.NodeStore (λ i. ask (Routine None name.now)) (λ lines. lines.value.items) self.old result self.new }
     {
-        let account = Bytes7::from_slice(alloc, self.settings.name_of(self.account))?;
-        if !is_account_name(&account) {
+        let own = self.settings.name_of(self.account);
+        if own.is_empty() {
             // the id is from other settings, which a world never hands in
             return Err(Code::Zmem);
         }
+        let account = Bytes7::from_slice(alloc, own)?;
         match shared_routine(self.store, alloc, &account, name.as_bytes7()) {
             Ok(lines) => Ok(lines),
             Err(fault) => Err(code_of(fault)),

@@ -1,6 +1,6 @@
 -- SPDX-License-Identifier: Apache-2.0
-use Rattle.meval.proofs.EvalLaws.{ap, ◌>>◌, give, unless, Node, LockName, are_subscripts, evaluates_then, evaluates_stopped, evaluates_gives, evaluates_yielded}
-use Rattle.meval.proofs.EvalLaws.{global_name}
+use Rattle.meval.proofs.EvalLaws.{ap, ◌>>◌, give, unless, Node, LockName, are_subscripts, evaluates_then, evaluates_stopped, evaluates_gives}
+use Rattle.meval.proofs.EvalLaws.{evaluates_yielded, global_name}
 use Rattle.mspec.specs.Code as spec
 use Rattle.meval.proofs.eval.Eval.global_lock.Goals as goal
 
@@ -19,4 +19,5 @@ pub returns-clause-does : goal.returns-clause-does
 returns-clause-does g c =
     let n : Node = c.args.node.now in
     evaluates_then (λ i _. unless spec.Zsub (are_subscripts n.subscripts) >> give (global_name n)) c.in_ok-check.ensures.does
-    (evaluates_then (λ i _. give (global_name n)) (evaluates_yielded c.in_ok-key.ensures.checked) (evaluates_gives (global_name n) (λ (name : LockName). name) _ (ap global_name c.in_ok-key.ensures.key)))
+    (evaluates_then (λ i _. give (global_name n)) (evaluates_yielded c.in_ok-key.ensures.checked)
+    (evaluates_gives (global_name n) (λ (name : LockName). name) _ (ap global_name c.in_ok-key.ensures.key)))

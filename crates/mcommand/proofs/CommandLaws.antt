@@ -10,7 +10,7 @@ pub use Rattle.mcommand.proofs.Calls.{does_evaluated, does_failed, does_false, d
 pub use Rattle.mcommand.proofs.Calls.{does_wanting, does_write, does_yielded, item_stopped, item_then, taken_front, truth_stopped, truth_then}
 pub use Rattle.mcommand.proofs.Handed.{deep_refused, free_goes_on, name_none, name_read}
 pub use Rattle.mcommand.proofs.Spoken.{does_spoken, target_in, target_is}
-pub use Rattle.mcommand.proofs.Locking.{does_give_back, does_take, name_is, next_given, one_is, one_more_taken}
+pub use Rattle.mcommand.proofs.Locking.{does_give_back, does_refuse, does_take, name_is, next_given, one_is, one_more_taken}
 pub use Rattle.mcommand.proofs.Targets.{all_given, all_prepared_failed, all_value_failed, node_assigned, node_subscript_failed, node_value_failed, one_assigned}
 pub use Rattle.mcommand.proofs.Targets.{one_prepared_failed, one_value_failed, made_assigned, made_put, made_read_failed, made_refused, made_wanting, named_is}
 pub use Rattle.mcommand.proofs.Targets.{plain_assigned, plain_failed, with_piece, with_range}

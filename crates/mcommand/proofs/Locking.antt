@@ -8,7 +8,7 @@ use Rattle.mcommand.proofs.CommandWords.{Does, here_of, MayTake}
 use Rattle.std.specs.List.{list_all}
 use Rattle.std.proofs.lemmas.List.Folds.{list_all-append}
 use Rattle.mspec.specs.LockConflict.{LockName, Locks, taken, given_back, released}
-use Rattle.mmeaning.specs.Shared.{may_lock, took}
+use Rattle.mmeaning.specs.Shared.{guarded, may_lock, took}
 use Rattle.mmeaning.specs.Locking as meaning
 use Rattle.mmeaning.specs.Calls.{Standing, ops_of}
 use Rattle.mmeaning.proofs.LockMoves.{take_open}
@@ -70,16 +70,26 @@ module _ {S : Type 0} {g : Ghosts S} where
       → (all ≡ false → l.now ≡ old.locks.now)
       → Does g (λ i. ask (Take names)) (λ (b : Bool). b) old (Ok all) (record old { locks = l })
   does_take {old = old} names all l lent may e none =
-      asked_of_locks l lent (Take names) (λ b. b) all (take_open (standing_of old.eval) names (here_of g old).1 may ∙ ap (took (here_of g old).1) e ∙ either all none)
+      asked_of_locks l lent (Take names) (λ b. b) all
+      (take_open (standing_of old.eval) names (here_of g old).1 may ∙ ap (took (here_of g old).1) e ∙ either all none)
     where
       either : (b : Bool) → (b ≡ false → l.now ≡ old.locks.now)
           → took (here_of g old).1 (if b then Some l.now else None) ≡ (b, record (here_of g old).1 { locks = l.now })
       either true same = refl
       either false same = ap (λ locks. (false, record (here_of g old).1 { locks = locks })) (sym (same refl))
 
+  -- names that the account may not take
+  pub does_refuse : {old : Parts S} (names : List LockName)
+      → list_all (may_lock (standing_of old.eval).settings (standing_of old.eval).account) names ≡ false
+      → Does g (λ i. ask (Take names)) (λ (b : Bool). b) old (Ok false) old
+  does_refuse {old = old} names closed =
+      asked_of_locks old.locks refl (Take names) (λ b. b) false
+      (let w = (here_of g old).1 in ap (λ b. guarded b false w (took w (taken w.locks (standing_of old.eval).terminal names))) closed)
+
   -- each name is given back
   pub next_given : {old mid new : Parts S} {r : Result (Unit {0}) Code} (names : List LockName) (k : ℕ) (d : LockName) → k < length names → d ≡ get_or names k d
-      → Does g (λ i. ask (Give_back d)) (λ (u : Unit {0}). u) old (Ok tt) mid → Does g (λ i. meaning.given_back_all (drop (k + 1) names)) (λ (u : Unit {0}). u) mid r new
+      → Does g (λ i. ask (Give_back d)) (λ (u : Unit {0}). u) old (Ok tt) mid
+      → Does g (λ i. meaning.given_back_all (drop (k + 1) names)) (λ (u : Unit {0}). u) mid r new
       → Does g (λ i. meaning.given_back_all (drop k names)) (λ (u : Unit {0}). u) old r new
   next_given {old = old} {new = new} {r = r} names k d within is h rest =
       subst (λ (ns : List LockName). Does g (λ i. meaning.given_back_all ns) (λ (u : Unit {0}). u) old r new) (sym (next_item names k d within is))

@@ -4,7 +4,9 @@
 use Rattle.mcommand.proofs.CommandWords.{◌≡◌, true, false, List, ◌∷◌, Option, refl, sym, Act}
 use Rattle.std.proofs.lemmas.Bool.{false≢true}
 use Rattle.mmeaning.specs.LineMeaning.{Context}
-use Rattle.mmeaning.specs.Programs.{Item, one_value, some_values, found, placed, walked, handing, step, plain, Op, Operand, Tail, Spend, Sign, Join}
+use Rattle.mmeaning.specs.Programs.{Targets, Target, Part, Names, Name, Numbers, Number}
+use Rattle.mmeaning.specs.Programs.{Item, one_value, some_values, some_numbers, some_names, made, found, placed, walked, handing, step, plain, Op}
+use Rattle.mmeaning.specs.Programs.{Operand, Tail, Spend, Sign, Join}
 use Rattle.mmeaning.specs.Programs.{Raise, Match, Match_not, Values, Add, Function, Begin, Actual, Hand, Hand_name, Call, Where, Formats, Prepare, Local}
 use Rattle.mmeaning.specs.Programs.{Global, Naked, Extended, Named, Read, Data, Resolve, Get, Walk, Order, Tell_name, Unless, Pass, Refuse}
 use Rattle.mmeaning.specs.Programs.{Seek, Query, sought}
@@ -70,6 +72,17 @@ step_is x Seek (found r ∷ st) h = refl
 step_is x Seek st h = refl
 step_is x Query (some_values vs ∷ sought p ∷ st) h = refl
 step_is x Query st h = refl
+step_is x Targets st h = refl
+step_is x Target (found r ∷ made ps ∷ st) h = refl
+step_is x Target st h = refl
+step_is x (Part word) (some_values vs ∷ found r ∷ made ps ∷ st) h = refl
+step_is x (Part word) st h = refl
+step_is x Names st h = refl
+step_is x Name (found r ∷ some_names ns ∷ st) h = refl
+step_is x Name st h = refl
+step_is x Numbers st h = refl
+step_is x Number (one_value v ∷ some_numbers ns ∷ st) h = refl
+step_is x Number st h = refl
 step_is x (Unless n) st h = absurd (false≢true (sym h))
 step_is x (Pass n) st h = absurd (false≢true (sym h))
 step_is x (Refuse c) st h = refl

@@ -1,6 +1,6 @@
 -- SPDX-License-Identifier: Apache-2.0
 -- The parameters of a FOR, without the commands that its turns do.
-use Rattle.std.specs.Prelude.{ℤ, ◌+ℤ◌, Bool, true, false, cond, [], Option, Some, None}
+use Rattle.std.specs.Prelude.{ℤ, ◌+ℤ◌, Bool, true, false, cond, [], Option, Some}
 use Rattle.mspec.specs.Number.{sum_of}
 use Rattle.mspec.specs.NumberText.{number_text}
 use Rattle.mspec.specs.Act.{Text, Act, ◌>>=◌, ◌>>◌, give}
@@ -9,6 +9,7 @@ use Rattle.mmeaning.specs.Operators.{as_text}
 use Rattle.mmeaning.specs.Variables.{at_local, put_at}
 use Rattle.mmeaning.specs.Expression.{Inside, value}
 use Rattle.mmeaning.specs.LineMeaning.{index_number, number_of}
+pub use Rattle.mmeaning.specs.Programs.{begun_within}
 use Rattle.mmeaning.specs.Courses as courses
 use Rattle.mmeaning.specs.Courses.{is_past}
 use Rattle.mnum.specs.Num.{units}
@@ -27,10 +28,6 @@ start_and_increment i e by = do
   a ← number_of i e
   b ← number_of i by
   give (a, b)
-
--- how the turns of a start go on by an increment, unless it is beyond the limit
-abbrev pub begun_within : ℤ → ℤ → ℤ → Option courses.Course
-begun_within a by limit = cond (is_past by a limit) None (Some (courses.limited by limit))
 
 -- a parameter is evaluated, and the index gets its first value: how its turns go on, if there is one
 abbrev pub started : Inside → Text → ParameterTree → Act (Option courses.Course)

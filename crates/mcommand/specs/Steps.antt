@@ -1,26 +1,31 @@
 -- SPDX-License-Identifier: Apache-2.0
 -- The steps of a program where an expression stands: as `step` of the definitions has them, apart from the call of a function, which a
 -- level has to be opened for, and from what passes steps by.
-use Rattle.std.specs.Prelude.{Bool, true, false, not, cond, List, [], ◌∷◌, ◌++◌, Option, Some, None, map, slice_get, unwrap_or}
+use Rattle.std.specs.Prelude.{ℤ, Bool, true, false, not, cond, List, [], ◌∷◌, ◌++◌, Option, Some, None, map, slice_get, unwrap_or}
 use Rattle.mspec.specs.Code.{Zsyntax}
 use Rattle.mspec.specs.Interpretations.{truth_text}
+use Rattle.mspec.specs.LockConflict.{LockName}
 use Rattle.mspec.specs.Scopes.{Binding, valued}
 use Rattle.mspec.specs.Act.{Text, Act, ◌>>=◌, ◌>>◌, give, fail, charge, write_formats, test_is}
 use Rattle.mgrammar.specs.Grammar.{SignTree, BinaryTree, ExprsTree}
-use Rattle.mmeaning.specs.Operators.{as_truth, unaries, binary, raising}
+use Rattle.mgrammar.specs.Functions.{function_of}
+use Rattle.mmeaning.specs.Operators.{as_number, as_truth, unaries, binary, raising}
 use Rattle.mmeaning.specs.Functions.{whole_at, call_value}
 use Rattle.mmeaning.specs.Variables.{Evaluated, of_local, of_global, of_naked, Place, reading, ordering, resolve, read_at, read_or, next_at}
-use Rattle.mmeaning.specs.Variables.{direction_of, named, querying, query_at}
+use Rattle.mmeaning.specs.Variables.{direction_of, named, named_lock}
+use Rattle.mmeaning.specs.Variables.{querying, query_at}
 use Rattle.mmeaning.specs.Expression.{Inside, linked_by, named_by, matches_text, tail_value, operand_value}
 use Rattle.mmeaning.specs.Parameters.{handed}
-use Rattle.mmeaning.specs.LineMeaning.{Prepared, all_prepared, targets}
-use Rattle.mmeaning.specs.Programs.{Item, one_value, some_values, found, placed, walked, made, handing, data_at, on_top, Op, Operand, Tail, Spend, Sign}
+use Rattle.mmeaning.specs.LineMeaning.{Prepared, whole, partial, all_prepared, targets}
+use Rattle.mmeaning.specs.Programs.{Item, one_value, some_values, some_numbers, some_names, found, placed, walked, made, handing, data_at, on_top, Op}
+use Rattle.mmeaning.specs.Programs.{Operand, Tail, Spend, Sign, Targets, Target, Part, Names, Name, Numbers, Number}
 use Rattle.mmeaning.specs.Programs.{Join, Raise, Match, Match_not, Values, Add, Function, Begin, Actual, Hand, Hand_name, Call, Where, Formats, Prepare}
 use Rattle.mmeaning.specs.Programs.{Local, Global, Naked, Extended, Named, Read, Data, Resolve, Get, Walk, Order, Tell_name, Unless, Pass, Refuse}
 use Rattle.mmeaning.specs.Programs.{Seek, Query, sought}
 use Rattle.mlocal.specs.Bindings.{binding_of}
 use Rattle.meval.specs.Acts.{named_within}
 use Rattle.meval.specs.Kept.{readable_view}
+use Rattle.mnum.specs.Num.{units}
 use Rattle.meval.specs.Places.{pending_view}
 use Rattle.mcommand.specs.Prepared.{prepared_view}
 use Rattle.mcommand.specs.declared.items.Item as code
@@ -37,6 +42,8 @@ item_view (item.Walked walk) = walked walk
 item_view (item.Sought place) = sought place
 item_view (item.Made all) = made (map prepared_view all.items)
 item_view (item.Handing test bs) = handing test (map binding_of bs.items)
+item_view (item.Numbers ns) = some_numbers (map units ns.items)
+item_view (item.Names names) = some_names names.items
 
 -- the last item pushed is on top
 abbrev pub items_on : List Item → List code.Item → List Item
@@ -79,6 +86,19 @@ targets_on_top st = fail Zsyntax
 abbrev pub handing_on_top : List Item → Act ((Bool × List Binding) × List Item)
 handing_on_top (handing b bs ∷ st) = give ((b, bs), st)
 handing_on_top st = fail Zsyntax
+
+abbrev pub numbers_on_top : List Item → Act (List ℤ × List Item)
+numbers_on_top (some_numbers ns ∷ st) = give (ns, st)
+numbers_on_top st = fail Zsyntax
+
+abbrev pub names_on_top : List Item → Act (List LockName × List Item)
+names_on_top (some_names ns ∷ st) = give (ns, st)
+names_on_top st = fail Zsyntax
+
+-- whatever it is
+abbrev pub item_on_top : List Item → Act (Item × List Item)
+item_on_top (i ∷ st) = give (i, st)
+item_on_top [] = fail Zsyntax
 
 -- ---- steps
 
@@ -150,6 +170,28 @@ extended_step name st = do
   vs ← values_on_top st
   owner ← value_on_top vs.1
   on_top owner.1 (found (of_global (record { account = owner.0; name = name; subscripts = vs.0 })))
+
+-- a target more, and a part of a variable as one
+abbrev pub target_step : List Item → Act (Option (List Item))
+target_step st = do
+  r ← found_on_top st
+  ps ← targets_on_top r.1
+  on_top ps.1 (made (ps.0 ++ whole r.0 ∷ []))
+
+abbrev pub part_step : Text → List Item → Act (Option (List Item))
+part_step word st = do
+  vs ← values_on_top st
+  r ← found_on_top vs.1
+  ps ← targets_on_top r.1
+  on_top ps.1 (made (ps.0 ++ partial (function_of word) r.0 vs.0 ∷ []))
+
+-- a number more
+abbrev pub number_step : List Item → Act (Option (List Item))
+number_step st = do
+  v ← value_on_top st
+  ns ← numbers_on_top v.1
+  n ← as_number v.0
+  on_top ns.1 (some_numbers (ns.0 ++ n ∷ []))
 
 -- the variable that the text on top names, where one text more may be entered than here
 abbrev pub named_step : Inside → ExprsTree → List Item → Act (Option (List Item))
@@ -256,6 +298,17 @@ step_in i Query st = do
   p ← sought_on_top vs.1
   v ← direction_of (slice_get vs.0 0) >>= (λ d. query_at i.account d p.0)
   on_top p.1 (one_value v)
+step_in i Targets st = on_top st (made [])
+step_in i Target st = target_step st
+step_in i (Part word) st = part_step word st
+step_in i Names st = on_top st (some_names [])
+step_in i Name st = do
+  r ← found_on_top st
+  ns ← names_on_top r.1
+  n ← named_lock i.account r.0
+  on_top ns.1 (some_names (ns.0 ++ n ∷ []))
+step_in i Numbers st = on_top st (some_numbers [])
+step_in i Number st = number_step st
 step_in i (Unless n) st = fail Zsyntax
 step_in i (Pass n) st = fail Zsyntax
 step_in i (Refuse c) st = fail c

@@ -1,13 +1,16 @@
 // SPDX-License-Identifier: Apache-2.0
 // A parameter of FOR: how its turns begin, and whether there is one more.
-ghost use Rattle.std.specs.Prelude.{◌≡◌, ℤ, ◌+ℤ◌, option_map};
+ghost use Rattle.std.specs.Prelude.{◌≡◌, ℤ, ◌+ℤ◌, map, option_map};
+ghost use Rattle.mmeaning.specs.Programs.{looped, some_numbers, begun_within};
+ghost use Rattle.mcommand.specs.Steps.{item_view};
 ghost use Rattle.mmeaning.specs.Courses as courses;
 ghost use Rattle.mnum.specs.Num.{units};
 ghost use Rattle.mgrammar.specs.Grammar.{onward, until};
 ghost use Rattle.mtree.specs.Tree.{expr_tree, parameter_tree};
 ghost use Rattle.mcommand.specs.Does.{Does};
-ghost use Rattle.mcommand.specs.ForParameters.{course_view, start_and_increment, begun_within, started, advanced, added, added_within};
+ghost use Rattle.mcommand.specs.ForParameters.{course_view, start_and_increment, started, advanced, added, added_within};
 
+use crate::items::Item;
 use crate::parts::Parts;
 use mnodes::NodeStore;
 use mnum::{Name, Num};
@@ -135,6 +138,42 @@ impl<'a, S: NodeStore> Parts<'a, S> {
             }
             Parameter::Onward(e, by) => self.start_endless(alloc, index, e, by),
             Parameter::Until(e, by, limit) => self.start_limited(alloc, index, e, by, limit),
+        }
+    }
+
+    // Gives the index the start of numbers that a parameter left: how its turns go on, if there is one.
+    fn begin_numbers(&mut self, index: &Name, numbers: &[Num]) -> Result<Option<Course>, Code>
+        ensures { Does S.NodeStore (λ i. looped index.now (some_numbers (map units numbers.now))) (option_map course_view) self.old result self.new }
+    {
+        match numbers {
+            [start, by] => {
+                self.eval.set_variable(index, Value::of_number(*start))?;
+                Ok(Some(Course::Endless(*by)))
+            }
+            [start, by, limit] => {
+                self.eval.set_variable(index, Value::of_number(*start))?;
+                Ok(course_within(*by, *start, *limit))
+            }
+            _ => Err(Code::Zsyntax),
+        }
+    }
+
+    /// Gives the index its first value, from what a parameter of FOR left on a stack. Returns how its turns go on, or nothing if there is no
+    /// turn.
+    ///
+    /// # Errors
+    ///
+    /// `Zsyntax` if that is neither a value nor numbers, as it is in each program; `Zmem` if memory runs out.
+    pub fn begin_course(&mut self, index: &Name, left: Item) -> Result<Option<Course>, Code>
+        ensures { Does S.NodeStore (λ i. looped index.now (item_view left)) (option_map course_view) self.old result self.new }
+    {
+        match left {
+            Item::Value(first) => {
+                self.eval.set_variable(index, first)?;
+                Ok(Some(Course::LastTurn))
+            }
+            Item::Numbers(numbers) => self.begin_numbers(index, &numbers),
+            _ => Err(Code::Zsyntax),
         }
     }
 

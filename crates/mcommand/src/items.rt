@@ -7,14 +7,16 @@ ghost use Rattle.moperator.specs.Codes.{fault_of};
 ghost use Rattle.mlocal.specs.Bindings.{binding_of};
 ghost use Rattle.meval.specs.Places.{pending_view};
 ghost use Rattle.meval.specs.Kept.{readable_view};
+ghost use Rattle.mnum.specs.Num.{units};
 ghost use Rattle.mcommand.specs.Prepared.{prepared_view};
 ghost use Rattle.mcommand.specs.Steps.{item_view, items_view, value_on_top, values_on_top, found_on_top, placed_on_top, walked_on_top, targets_on_top};
 ghost use Rattle.mcommand.specs.Steps.{sought_on_top};
-ghost use Rattle.mcommand.specs.Steps.{handing_on_top, goes_with};
+ghost use Rattle.mcommand.specs.Steps.{handing_on_top, numbers_on_top, names_on_top, item_on_top, goes_with};
 
 use crate::set::Prepared;
-use meval::{Pending, Readable, Seekable, Walkable};
+use meval::{Lockable, Pending, Readable, Seekable, Walkable};
 use mlocal::Binding;
+use mnum::Num;
 use moperator::Code;
 use mvalue::Value;
 
@@ -33,10 +35,14 @@ pub enum Item {
     Walked(Walkable),
     /// The place of a reference, which is checked for $QUERY.
     Sought(Seekable),
-    /// The targets of SET.
+    /// The targets of SET so far.
     Made(Vec<Prepared<'static>>),
     /// What `$TEST` was before the actuals, and what these hand over so far.
     Handing(bool, Vec<Binding>),
+    /// The numbers of a parameter of FOR so far.
+    Numbers(Vec<Num>),
+    /// The names of LOCK so far.
+    Names(Vec<Lockable>),
 }
 
 /// Takes the value on top. Takes no memory.
@@ -59,6 +65,8 @@ pub fn take_value(items: &mut Vec<Item>) -> Result<Value, Code>
         Item::Sought(_) => Err(Code::Zsyntax),
         Item::Made(_) => Err(Code::Zsyntax),
         Item::Handing(_, _) => Err(Code::Zsyntax),
+        Item::Numbers(_) => Err(Code::Zsyntax),
+        Item::Names(_) => Err(Code::Zsyntax),
     }
 }
 
@@ -82,11 +90,17 @@ pub fn take_values(items: &mut Vec<Item>) -> Result<Vec<Value>, Code>
         Item::Sought(_) => Err(Code::Zsyntax),
         Item::Made(_) => Err(Code::Zsyntax),
         Item::Handing(_, _) => Err(Code::Zsyntax),
+        Item::Numbers(_) => Err(Code::Zsyntax),
+        Item::Names(_) => Err(Code::Zsyntax),
     }
 }
 
-// Takes the reference on top; `Zsyntax` if there is none, as there is in no program. Takes no memory.
-pub(crate) fn take_found(items: &mut Vec<Item>) -> Result<Pending<'static>, Code>
+/// Takes the reference on top. Takes no memory.
+///
+/// # Errors
+///
+/// `Zsyntax` if there is none, as there is in no program.
+pub fn take_found(items: &mut Vec<Item>) -> Result<Pending<'static>, Code>
     ensures { Yields fault_of (found_on_top (items_view items.old.items)) (λ pending. (pending_view pending, items_view items.new.items)) result }
 {
     let Some(item) = items.pop() else {
@@ -101,6 +115,8 @@ pub(crate) fn take_found(items: &mut Vec<Item>) -> Result<Pending<'static>, Code
         Item::Sought(_) => Err(Code::Zsyntax),
         Item::Made(_) => Err(Code::Zsyntax),
         Item::Handing(_, _) => Err(Code::Zsyntax),
+        Item::Numbers(_) => Err(Code::Zsyntax),
+        Item::Names(_) => Err(Code::Zsyntax),
     }
 }
 
@@ -120,6 +136,8 @@ pub(crate) fn take_placed(items: &mut Vec<Item>) -> Result<Readable, Code>
         Item::Sought(_) => Err(Code::Zsyntax),
         Item::Made(_) => Err(Code::Zsyntax),
         Item::Handing(_, _) => Err(Code::Zsyntax),
+        Item::Numbers(_) => Err(Code::Zsyntax),
+        Item::Names(_) => Err(Code::Zsyntax),
     }
 }
 
@@ -139,6 +157,8 @@ pub(crate) fn take_walked(items: &mut Vec<Item>) -> Result<Walkable, Code>
         Item::Sought(_) => Err(Code::Zsyntax),
         Item::Made(_) => Err(Code::Zsyntax),
         Item::Handing(_, _) => Err(Code::Zsyntax),
+        Item::Numbers(_) => Err(Code::Zsyntax),
+        Item::Names(_) => Err(Code::Zsyntax),
     }
 }
 
@@ -158,6 +178,8 @@ pub(crate) fn take_sought(items: &mut Vec<Item>) -> Result<Seekable, Code>
         Item::Sought(place) => Ok(place),
         Item::Made(_) => Err(Code::Zsyntax),
         Item::Handing(_, _) => Err(Code::Zsyntax),
+        Item::Numbers(_) => Err(Code::Zsyntax),
+        Item::Names(_) => Err(Code::Zsyntax),
     }
 }
 
@@ -181,6 +203,8 @@ pub fn take_targets(items: &mut Vec<Item>) -> Result<Vec<Prepared<'static>>, Cod
         Item::Sought(_) => Err(Code::Zsyntax),
         Item::Made(all) => Ok(all),
         Item::Handing(_, _) => Err(Code::Zsyntax),
+        Item::Numbers(_) => Err(Code::Zsyntax),
+        Item::Names(_) => Err(Code::Zsyntax),
     }
 }
 
@@ -205,6 +229,68 @@ pub fn take_handing(items: &mut Vec<Item>) -> Result<(bool, Vec<Binding>), Code>
         Item::Sought(_) => Err(Code::Zsyntax),
         Item::Made(_) => Err(Code::Zsyntax),
         Item::Handing(test, bindings) => Ok((test, bindings)),
+        Item::Numbers(_) => Err(Code::Zsyntax),
+        Item::Names(_) => Err(Code::Zsyntax),
+    }
+}
+
+// Takes the numbers of a parameter of FOR, which are on top.
+pub(crate) fn take_numbers(items: &mut Vec<Item>) -> Result<Vec<Num>, Code>
+    ensures { Yields fault_of (numbers_on_top (items_view items.old.items)) (λ numbers. (map units numbers.items, items_view items.new.items)) result }
+{
+    let Some(item) = items.pop() else {
+        return Err(Code::Zsyntax);
+    };
+    match item {
+        Item::Value(_) => Err(Code::Zsyntax),
+        Item::Values(_) => Err(Code::Zsyntax),
+        Item::Found(_) => Err(Code::Zsyntax),
+        Item::Placed(_) => Err(Code::Zsyntax),
+        Item::Walked(_) => Err(Code::Zsyntax),
+        Item::Sought(_) => Err(Code::Zsyntax),
+        Item::Made(_) => Err(Code::Zsyntax),
+        Item::Handing(_, _) => Err(Code::Zsyntax),
+        Item::Numbers(numbers) => Ok(numbers),
+        Item::Names(_) => Err(Code::Zsyntax),
+    }
+}
+
+/// Takes the names of LOCK, which are on top. Takes no memory.
+///
+/// # Errors
+///
+/// `Zsyntax` if they are not, as they are in each program.
+pub fn take_names(items: &mut Vec<Item>) -> Result<Vec<Lockable>, Code>
+    ensures { Yields fault_of (names_on_top (items_view items.old.items)) (λ names. (names.items, items_view items.new.items)) result }
+{
+    let Some(item) = items.pop() else {
+        return Err(Code::Zsyntax);
+    };
+    match item {
+        Item::Value(_) => Err(Code::Zsyntax),
+        Item::Values(_) => Err(Code::Zsyntax),
+        Item::Found(_) => Err(Code::Zsyntax),
+        Item::Placed(_) => Err(Code::Zsyntax),
+        Item::Walked(_) => Err(Code::Zsyntax),
+        Item::Sought(_) => Err(Code::Zsyntax),
+        Item::Made(_) => Err(Code::Zsyntax),
+        Item::Handing(_, _) => Err(Code::Zsyntax),
+        Item::Numbers(_) => Err(Code::Zsyntax),
+        Item::Names(names) => Ok(names),
+    }
+}
+
+/// Takes whatever is on top. Takes no memory.
+///
+/// # Errors
+///
+/// `Zsyntax` if there is nothing, as there is in no program.
+pub fn take_item(items: &mut Vec<Item>) -> Result<Item, Code>
+    ensures { Yields fault_of (item_on_top (items_view items.old.items)) (λ item. (item_view item, items_view items.new.items)) result }
+{
+    match items.pop() {
+        Some(item) => Ok(item),
+        None => Err(Code::Zsyntax),
     }
 }
 

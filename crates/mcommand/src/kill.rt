@@ -2,10 +2,13 @@
 // KILL of one variable.
 ghost use Rattle.std.specs.Prelude.{◌≡◌};
 ghost use Rattle.mmeaning.specs.LineMeaning as meaning;
+ghost use Rattle.meval.specs.Acts.{kill_act};
+ghost use Rattle.meval.specs.Places.{pending_view};
 ghost use Rattle.mtree.specs.Tree.{reference_tree};
 ghost use Rattle.mcommand.specs.Does.{Does};
 
 use crate::parts::Parts;
+use meval::Pending;
 use mgrant::Mode;
 use mnodes::NodeStore;
 use moperator::Code;
@@ -23,6 +26,18 @@ impl<'a, S: NodeStore> Parts<'a, S> {
         ensures { Does S.NodeStore (λ i. meaning.killing i (reference_tree reference.now)) (λ u. u) self.old result self.new }
     {
         let pending = self.eval.evaluated(alloc, reference)?;
+        self.kill_found(alloc, pending)
+    }
+
+    /// The same, once all that its reference has to evaluate is evaluated.
+    ///
+    /// # Errors
+    ///
+    /// Those of `killing` that come after the values of the subscripts.
+    #[inline]
+    pub fn kill_found(&mut self, alloc: Global, pending: Pending) -> Result<(), Code>
+        ensures { Does S.NodeStore (λ i. kill_act (pending_view pending.entry)) (λ u. u) self.old result self.new }
+    {
         let place = self.eval.resolved(alloc, Mode::Write, pending)?;
         self.eval.kill(&place)
     }

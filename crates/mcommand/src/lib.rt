@@ -16,11 +16,14 @@ mod reference_steps;
 mod set;
 mod steps;
 mod target;
+mod target_steps;
 mod write;
 
 pub use for_parameter::Course;
 pub use formals::{formals_for, formals_lent};
-pub use items::{Item, take_handing, take_targets, take_value, take_values};
+pub use items::{
+    Item, take_found, take_handing, take_item, take_names, take_targets, take_value, take_values,
+};
 pub use parts::Parts;
 pub use set::Prepared;
 pub use target::Target;

@@ -1,6 +1,9 @@
 // SPDX-License-Identifier: Apache-2.0
 // LOCK: its names and its timeout are evaluated first, and then the names are taken or given back.
-ghost use Rattle.std.specs.Prelude.{◌≡◌, [], map, Ok, IfOk};
+ghost use Rattle.std.specs.Prelude.{◌≡◌, [], false, map, Ok, IfOk};
+ghost use Rattle.std.specs.List.{list_all};
+ghost use Rattle.mmeaning.specs.Shared.{may_lock};
+ghost use Rattle.mmeaning.specs.Programs.{lock_done};
 ghost use Rattle.mspec.specs.Act.{ask};
 ghost use Rattle.mspec.specs.Plan.{Release, Take};
 ghost use Rattle.mmeaning.specs.Expression.{optional_value};
@@ -12,6 +15,7 @@ ghost use Rattle.mcommand.specs.Does.{Does};
 ghost use Rattle.mcommand.specs.LockNames.{MayTake, locking_names};
 
 use crate::parts::Parts;
+use meval::{Lockable, locks_of};
 use mlock::LockName;
 use mnodes::NodeStore;
 use moperator::Code;
@@ -96,6 +100,55 @@ impl<'a, S: NodeStore> Parts<'a, S> {
                 Ok(true)
             }
         }
+    }
+
+    // Whether that could be done with names that the account may not lock, as it may those of each program: none is taken.
+    fn carry_none(&mut self, kind: LockKind, names: &[LockName]) -> bool
+        requires { list_all (may_lock (standing_of self.old.eval).settings (standing_of self.old.eval).account) names.now ≡ false }
+        ensures eval { self.new.eval ≡ self.old.eval }
+        ensures does { Does S.NodeStore (λ i. meaning.carried (kind_tree kind) names.now) (λ carried. carried) self.old (Ok result) self.new }
+    {
+        match kind {
+            LockKind::Anew => {
+                self.release();
+                false
+            }
+            LockKind::Adding => false,
+            LockKind::GivingBack => {
+                self.give_back_all(names);
+                true
+            }
+        }
+    }
+
+    // Whether what an argument of this kind does could be done with names that were checked before functions were called.
+    fn carry_kept(&mut self, alloc: Global, kind: LockKind, all: &[Lockable]) -> Result<bool, Code>
+        ensures { Does S.NodeStore (λ i. meaning.carried (kind_tree kind) all.now) (λ carried. carried) self.old result self.new }
+    {
+        let names = locks_of(alloc, all)?;
+        if self.eval.may_lock_all(all) {
+            self.carry(kind, &names)
+        } else {
+            Ok(self.carry_none(kind, &names))
+        }
+    }
+
+    /// What an argument of LOCK does with names and a timeout that are evaluated.
+    ///
+    /// # Errors
+    ///
+    /// `Zlocked` if names could not be taken and there is no timeout; `Zmem` if memory runs out.
+    pub fn lock_done(
+        &mut self,
+        alloc: Global,
+        kind: LockKind,
+        all: &[Lockable],
+        timeout: &Option<Value>,
+    ) -> Result<(), Code>
+        ensures { Does S.NodeStore (λ i. lock_done (kind_tree kind) all.now timeout.now) (λ u. u) self.old result self.new }
+    {
+        let carried = self.carry_kept(alloc, kind, all)?;
+        self.tell(timeout, carried)
     }
 
     // Reports whether it could be done: with a timeout by `$TEST`, and without one it is an error if it could not.

@@ -14,6 +14,7 @@ ghost use Rattle.mcommand.specs.Steps.{items_view, step_in, goes_with, sign_step
 use crate::items::{Item, put, take_handing, take_value, take_values};
 use crate::parts::Parts;
 use crate::reference_steps::{extended_step, local_step, naked_step};
+use crate::target_steps::{number_step, part_step, target_step};
 use mlocal::Binding;
 use mnodes::NodeStore;
 use mnum::Bytes7;
@@ -67,7 +68,8 @@ fn put_handing(
     bindings: Vec<Binding>,
     binding: Binding,
 ) -> Result<bool, Code>
-    ensures { Yields fault_of (handed_on_top ((test, map binding_of bindings.items), items_view items.old.items) (binding_of binding)) (λ goes. goes_with goes (items_view items.new.items)) result }
+    ensures { Yields fault_of (handed_on_top ((test, map binding_of bindings.items), items_view items.old.items) (binding_of binding))
+        (λ goes. goes_with goes (items_view items.new.items)) result }
 {
     let mut bindings = bindings;
     bindings.push(binding)?;
@@ -100,7 +102,8 @@ impl<'a, S: NodeStore> Parts<'a, S> {
         operand: &Operand,
         items: &mut Vec<Item>,
     ) -> Result<bool, Code>
-        ensures { Does S.NodeStore (λ i. step_in i (programs.Operand (operand_tree operand.now)) (items_view items.old.items)) (λ goes. goes_with goes (items_view items.new.items)) self.old result self.new }
+        ensures { Does S.NodeStore (λ i. step_in i (programs.Operand (operand_tree operand.now)) (items_view items.old.items))
+            (λ goes. goes_with goes (items_view items.new.items)) self.old result self.new }
     {
         let value = self.eval.operand(alloc, operand)?;
         put(items, Item::Value(value))
@@ -113,7 +116,8 @@ impl<'a, S: NodeStore> Parts<'a, S> {
         primary: &Primary,
         items: &mut Vec<Item>,
     ) -> Result<bool, Code>
-        ensures { Does S.NodeStore (λ i. step_in i (programs.Operand (grammar.operand [] (primary_tree primary.now))) (items_view items.old.items)) (λ goes. goes_with goes (items_view items.new.items)) self.old result self.new }
+        ensures { Does S.NodeStore (λ i. step_in i (programs.Operand (grammar.operand [] (primary_tree primary.now))) (items_view items.old.items))
+            (λ goes. goes_with goes (items_view items.new.items)) self.old result self.new }
     {
         let value = self.eval.primary(alloc, primary)?;
         put(items, Item::Value(value))
@@ -121,7 +125,8 @@ impl<'a, S: NodeStore> Parts<'a, S> {
 
     // What is done with the value on top.
     fn tail_step(&mut self, alloc: Global, tail: &Tail, items: &mut Vec<Item>) -> Result<bool, Code>
-        ensures { Does S.NodeStore (λ i. step_in i (programs.Tail (tail_tree tail.now)) (items_view items.old.items)) (λ goes. goes_with goes (items_view items.new.items)) self.old result self.new }
+        ensures { Does S.NodeStore (λ i. step_in i (programs.Tail (tail_tree tail.now)) (items_view items.old.items))
+            (λ goes. goes_with goes (items_view items.new.items)) self.old result self.new }
     {
         let mut value = take_value(items)?;
         self.eval.tail(alloc, &mut value, tail)?;
@@ -130,7 +135,8 @@ impl<'a, S: NodeStore> Parts<'a, S> {
 
     // The step that a primary costs.
     fn spend_step(&mut self, items: &mut Vec<Item>) -> Result<bool, Code>
-        ensures { Does S.NodeStore (λ i. step_in i programs.Spend (items_view items.old.items)) (λ goes. goes_with goes (items_view items.new.items)) self.old result self.new }
+        ensures { Does S.NodeStore (λ i. step_in i programs.Spend (items_view items.old.items))
+            (λ goes. goes_with goes (items_view items.new.items)) self.old result self.new }
     {
         self.eval.charge()?;
         Ok(true)
@@ -138,7 +144,8 @@ impl<'a, S: NodeStore> Parts<'a, S> {
 
     // The power of the two values on top.
     fn raise_step(&mut self, items: &mut Vec<Item>) -> Result<bool, Code>
-        ensures { Does S.NodeStore (λ i. step_in i programs.Raise (items_view items.old.items)) (λ goes. goes_with goes (items_view items.new.items)) self.old result self.new }
+        ensures { Does S.NodeStore (λ i. step_in i programs.Raise (items_view items.old.items))
+            (λ goes. goes_with goes (items_view items.new.items)) self.old result self.new }
     {
         let right = take_value(items)?;
         let mut left = take_value(items)?;
@@ -148,7 +155,8 @@ impl<'a, S: NodeStore> Parts<'a, S> {
 
     // No actual so far, and what `$TEST` is.
     fn begin_step(&mut self, alloc: Global, items: &mut Vec<Item>) -> Result<bool, Code>
-        ensures { Does S.NodeStore (λ i. step_in i programs.Begin (items_view items.old.items)) (λ goes. goes_with goes (items_view items.new.items)) self.old result self.new }
+        ensures { Does S.NodeStore (λ i. step_in i programs.Begin (items_view items.old.items))
+            (λ goes. goes_with goes (items_view items.new.items)) self.old result self.new }
     {
         let test = self.eval.test();
         put(items, Item::Handing(test, Vec::new(alloc)))
@@ -161,7 +169,8 @@ impl<'a, S: NodeStore> Parts<'a, S> {
         actual: &Actual,
         items: &mut Vec<Item>,
     ) -> Result<bool, Code>
-        ensures { Does S.NodeStore (λ i. step_in i (programs.Actual (actual_tree actual.now)) (items_view items.old.items)) (λ goes. goes_with goes (items_view items.new.items)) self.old result self.new }
+        ensures { Does S.NodeStore (λ i. step_in i (programs.Actual (actual_tree actual.now)) (items_view items.old.items))
+            (λ goes. goes_with goes (items_view items.new.items)) self.old result self.new }
     {
         let (test, bindings) = take_handing(items)?;
         let binding = self.handed(alloc, actual)?;
@@ -170,7 +179,8 @@ impl<'a, S: NodeStore> Parts<'a, S> {
 
     // The variable that the value on top names, as what one more actual hands over.
     fn hand_name_step(&mut self, alloc: Global, items: &mut Vec<Item>) -> Result<bool, Code>
-        ensures { Does S.NodeStore (λ i. step_in i programs.Hand_name (items_view items.old.items)) (λ goes. goes_with goes (items_view items.new.items)) self.old result self.new }
+        ensures { Does S.NodeStore (λ i. step_in i programs.Hand_name (items_view items.old.items))
+            (λ goes. goes_with goes (items_view items.new.items)) self.old result self.new }
     {
         let given = take_value(items)?;
         let (test, bindings) = take_handing(items)?;
@@ -180,7 +190,8 @@ impl<'a, S: NodeStore> Parts<'a, S> {
 
     // Formats of WRITE.
     fn formats_step(&mut self, formats: &Bytes7, items: &mut Vec<Item>) -> Result<bool, Code>
-        ensures { Does S.NodeStore (λ i. step_in i (programs.Formats formats.now) (items_view items.old.items)) (λ goes. goes_with goes (items_view items.new.items)) self.old result self.new }
+        ensures { Does S.NodeStore (λ i. step_in i (programs.Formats formats.now) (items_view items.old.items))
+            (λ goes. goes_with goes (items_view items.new.items)) self.old result self.new }
     {
         self.write_formats(formats.as_bytes())?;
         Ok(true)
@@ -193,7 +204,8 @@ impl<'a, S: NodeStore> Parts<'a, S> {
         destination: &Destination,
         items: &mut Vec<Item>,
     ) -> Result<bool, Code>
-        ensures { Does S.NodeStore (λ i. step_in i (programs.Prepare (destination_tree destination.now)) (items_view items.old.items)) (λ goes. goes_with goes (items_view items.new.items)) self.old result self.new }
+        ensures { Does S.NodeStore (λ i. step_in i (programs.Prepare (destination_tree destination.now)) (items_view items.old.items))
+            (λ goes. goes_with goes (items_view items.new.items)) self.old result self.new }
     {
         let all = self.prepared_targets(alloc, destination)?;
         put(items, Item::Made(all))
@@ -249,6 +261,13 @@ impl<'a, S: NodeStore> Parts<'a, S> {
             Op::TellName => self.tell_name_step(alloc, items),
             Op::Seek => self.seek_step(alloc, items),
             Op::Query => self.query_step(alloc, items),
+            Op::Targets => put(items, Item::Made(Vec::new(alloc))),
+            Op::Target => target_step(items),
+            Op::Part(word) => part_step(word, items),
+            Op::Names => put(items, Item::Names(Vec::new(alloc))),
+            Op::Name => self.name_step(alloc, items),
+            Op::Numbers => put(items, Item::Numbers(Vec::new(alloc))),
+            Op::Number => number_step(items),
         }
     }
 }

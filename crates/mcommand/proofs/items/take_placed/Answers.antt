@@ -30,5 +30,11 @@ returns-in-Sought c = refused placed_on_top _ _ _ _ _ c.pop.ensures.items c.in-S
 pub returns-in-Made : goal.returns-in-Made
 returns-in-Made c = refused placed_on_top _ _ _ _ _ c.pop.ensures.items c.in-Some.is c.in-Made.is refl
 
+pub returns-in-Handing : goal.returns-in-Handing
+returns-in-Handing c = refused placed_on_top _ _ _ _ _ c.pop.ensures.items c.in-Some.is c.in-Handing.is refl
+
+pub returns-in-Numbers : goal.returns-in-Numbers
+returns-in-Numbers c = refused placed_on_top _ _ _ _ _ c.pop.ensures.items c.in-Some.is c.in-Numbers.is refl
+
 pub returns : goal.returns
-returns c = refused placed_on_top _ _ _ _ _ c.pop.ensures.items c.in-Some.is c.in-Handing.is refl
+returns c = refused placed_on_top _ _ _ _ _ c.pop.ensures.items c.in-Some.is c.in-Names.is refl

@@ -1,12 +1,10 @@
 -- SPDX-License-Identifier: Apache-2.0
-use Rattle.mcommand.proofs.CommandLaws.{kill_at, does_then, does_stopped, does_evaluated}
+use Rattle.mcommand.proofs.CommandLaws.{does_then, does_stopped, does_evaluated}
+use Rattle.meval.specs.Acts.{kill_act}
 use Rattle.mcommand.proofs.parts.Parts.killing.Goals as goal
 
 pub returns-in_err-pending : goal.returns-in_err-pending
-returns-in_err-pending g c = does_stopped _ (does_evaluated c.in_err-pending.ensures) c.from_residual.ensures
-
-pub returns-in_err-place : goal.returns-in_err-place
-returns-in_err-place g c = does_then _ (does_evaluated c.in_ok-pending.ensures) (does_stopped (λ i p. kill_at p) (does_evaluated c.in_err-place.ensures.does) c.from_residual-in_err-place.ensures)
+returns-in_err-pending g c = does_stopped (λ i v. kill_act v) (does_evaluated c.in_err-pending.ensures) c.from_residual.ensures
 
 pub returns : goal.returns
-returns g c = does_then _ (does_evaluated c.in_ok-pending.ensures) (does_then (λ i p. kill_at p) (does_evaluated c.in_ok-place.ensures.does) (does_evaluated c.kill.ensures))
+returns g c = does_then (λ i v. kill_act v) (does_evaluated c.in_ok-pending.ensures) c.kill_found.ensures

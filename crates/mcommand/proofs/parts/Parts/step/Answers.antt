@@ -115,3 +115,30 @@ returns-in-Pass g c = rw c.in-Pass.is (within_any (does_yielded (record { ends =
 
 pub returns-in-NoChoice : goal.returns-in-NoChoice
 returns-in-NoChoice g c = rw c.in-NoChoice.is (within_any (does_yielded (record { ends = λ s. refl })))
+
+pub returns-in-Targets : goal.returns-in-Targets
+returns-in-Targets g c =
+    let put = rw c.new-in-Targets.ensures.items at c.put-in-Targets.ensures in
+    rw c.in-Targets.is (within_any (does_yielded put))
+
+pub returns-in-Target : goal.returns-in-Target
+returns-in-Target g c = rw c.in-Target.is (within_any (does_yielded c.target_step.ensures))
+
+pub returns-in-Part : goal.returns-in-Part
+returns-in-Part g c = rw c.in-Part.is (within_any (does_yielded c.part_step.ensures))
+
+pub returns-in-Names : goal.returns-in-Names
+returns-in-Names g c =
+    let put = rw c.new-in-Names.ensures.items at c.put-in-Names.ensures in
+    rw c.in-Names.is (within_any (does_yielded put))
+
+pub returns-in-Name : goal.returns-in-Name
+returns-in-Name g c = rw c.in-Name.is (within_any c.name_step.ensures)
+
+pub returns-in-Numbers : goal.returns-in-Numbers
+returns-in-Numbers g c =
+    let put = rw c.new-in-Numbers.ensures.items at c.put-in-Numbers.ensures in
+    rw c.in-Numbers.is (within_any (does_yielded put))
+
+pub returns-in-Number : goal.returns-in-Number
+returns-in-Number g c = rw c.in-Number.is (within_any (does_yielded c.number_step.ensures))

@@ -1,26 +1,27 @@
 -- SPDX-License-Identifier: Apache-2.0
 -- Arguments, one after another: what the code does up to where lines or a text are entered, and then that, is what each does.
-use Rattle.mexec.proofs.ExecWords.{arith, ◌≡◌, ℕ, zero, suc, ◌+◌, ◌-◌, ◌<◌, [], ◌∷◌, IfOk, slice_get, spaced_tree, command_tree, parameter_tree, line_tree, ap}
+use Rattle.mexec.proofs.ExecWords.{arith, ◌≡◌, ◌≤◌, None, Some, ℕ, zero, suc, ◌+◌, ◌-◌, ◌<◌, [], ◌∷◌, IfOk, slice_get, spaced_tree, command_tree, parameter_tree, line_tree, ap}
 use Rattle.mexec.proofs.ExecWords.{Line, source_args, args_before, position_of, Does, at_done, Bool, true, false, cond, List, Option, Result, Ok, Err, length}
 use Rattle.mexec.proofs.ExecWords.{get_or, map, drop, refl, sym, ◌∙◌, subst, IsErr, IsErrAnd, Text, Act, ◌>>=◌, give, next_item, ExprTree, ArgTree, do_one}
 use Rattle.mexec.proofs.ExecWords.{executed, indirect_args, inside, Context, Go_on, argument, context, holds, inside_of, assoc, ended, arg_tree, Arg, Ghosts}
 use Rattle.mexec.proofs.ExecWords.{Code, Parts, DoesAt, completion_of, args_started, begun_of, Entrance, into_lines, into_text, entered, finished, start_of}
-use Rattle.mexec.proofs.ExecWords.{entrance_of, where_applies, behind, over, stops, ends, progress_of, Progress, Position, Completion, started, not}
+use Rattle.mexec.proofs.ExecWords.{entrance_of, where_applies, behind, over, stops, ends, progress_of, Progress, Position, Completion, started}
 use Rattle.mmeaning.specs.LineMeaning as meaning
 use Rattle.mtree.specs.declared.tree.Spaced.{Spaced}
 use Rattle.mexec.specs.Loops.{args_of, loop_in, loop_before}
 use Rattle.mtree.specs.declared.tree.Parameter.{Parameter}
 use Rattle.mtree.specs.declared.tree.Arg.TheVariants as arg
-use Rattle.mexec.specs.declared.frames.ForLoop.{ForLoop}
+use Rattle.mexec.specs.declared.frames.Continuation.{Continuation}
 use Rattle.mexec.specs.declared.arguments.Entrance as entrances
+use Rattle.mexec.specs.declared.arguments.Entrance.TheVariants as entrance
 use Rattle.mexec.specs.declared.completion.Progress as the_progress
 use Rattle.mexec.specs.declared.completion.Progress.TheVariants as progress
 use Rattle.mexec.specs.declared.completion.Completion.TheVariants as completion
 use Rattle.mgrammar.specs.CallsIn.{has_call_optional, has_call_arg, has_call_spaced, has_call_line, has_call_parameter}
-use Rattle.mgrammar.specs.ProgramsIn.{in_steps_arg}
+use Rattle.mgrammar.specs.ProgramsIn.{in_steps_parameter, in_steps_arg}
 use Rattle.std.specs.List.{list_any, list_all}
 use Rattle.mmeaning.proofs.Uncalled.{neither}
-use Rattle.mexec.specs.Arguments.{into_pause, program_started, progress_at, started_plainly}
+use Rattle.mexec.specs.Arguments.{Enters, IsReady, ahead, into_pause, program_started, progress_at, started_plainly}
 use Rattle.mmeaning.specs.Programs as programs
 use Rattle.mmeaning.specs.Programs.{Ending, Pause, begun}
 use Rattle.mmeaning.specs.Frames.{resumed}
@@ -34,9 +35,9 @@ use Rattle.mexec.specs.declared.programs.Pause.TheVariants as pause
 use Rattle.mexec.specs.declared.completion.Completion as completions
 use Rattle.mprogram.proofs.StepsThere.{calls_have_programs}
 use Rattle.mexec.specs.Frames.{source_since}
-use Rattle.mexec.proofs.PlayedTexts.{before_stepped, played_plain}
+use Rattle.mexec.proofs.PlayedTexts.{before_stepped, one_stepped, played_plain}
 use Rattle.mgrammar.proofs.ProfileCalls.{profile_args_have_no_call}
-use Rattle.mmeaning.proofs.ProgramSteps.{denied, each_of}
+use Rattle.mmeaning.proofs.ProgramSteps.{each_of}
 use Rattle.mexec.specs.Progress.{IfStops}
 use Rattle.mexec.specs.declared.frames.Position as positions
 use Rattle.mexec.specs.declared.source.Source.{Source}
@@ -133,26 +134,74 @@ source_uncalled (source.Line behind) none = before_uncalled behind.now.line.valu
 source_uncalled (source.Text given) none =
     profile_args_have_no_call (map arg_tree given.now.value.args.items) (let counted = given.now.value.played.0 in omega (arith, counted, none))
 
--- the parameters of a FOR have none
+-- the parameters of a FOR have none either, and each call in them stands where steps are
 loop_uncalled : (args : List Arg) (index : Text) (parameters : List Parameter) → loop_in args ≡ (index, parameters)
-    → list_all in_steps_arg (map arg_tree args) ≡ true → list_any has_call_parameter (map parameter_tree parameters) ≡ false
-loop_uncalled (arg.Loop i ps ∷ more) index parameters e steps =
-    let one = denied (list_any has_call_parameter (map parameter_tree ps.items))
-    (each_of (not (list_any has_call_parameter (map parameter_tree ps.items))) (list_all in_steps_arg (map arg_tree more)) steps).0 in
+    → list_any has_call_arg (map arg_tree args) ≡ false → list_any has_call_parameter (map parameter_tree parameters) ≡ false
+loop_uncalled (arg.Loop i ps ∷ more) index parameters e none =
+    let one = (neither (list_any has_call_parameter (map parameter_tree ps.items)) (list_any has_call_arg (map arg_tree more)) none).0 in
     subst (λ xs. list_any has_call_parameter (map parameter_tree xs) ≡ false) (ap (λ (x : Text × List Parameter). x.1) e) one
-loop_uncalled args index parameters e steps =
+loop_uncalled args index parameters e none =
     subst (λ xs. list_any has_call_parameter (map parameter_tree xs) ≡ false) (ap (λ (x : Text × List Parameter). x.1) e) (grind arith)
 
-pub parameter_uncalled : (t : ForLoop) (index : Text) (parameters : List Parameter) → loop_before t.body.line.value t.body.at ≡ (index, parameters)
-    → (k : ℕ) (q : Parameter) → k < length parameters → q ≡ get_or parameters k q
-    → has_call_parameter (parameter_tree q) ≡ false
-parameter_uncalled t index parameters found k q less is =
-    one_uncalled has_call_parameter parameter_tree parameters k q less is
-    (loop_uncalled (args_before t.body.line.value t.body.at) index parameters found (before_stepped t.body.line.value t.body.at t.body.played))
+loop_stepped : (args : List Arg) (index : Text) (parameters : List Parameter) → loop_in args ≡ (index, parameters)
+    → list_all in_steps_arg (map arg_tree args) ≡ true → list_all in_steps_parameter (map parameter_tree parameters) ≡ true
+loop_stepped (arg.Loop i ps ∷ more) index parameters e steps =
+    let one = (each_of (list_all in_steps_parameter (map parameter_tree ps.items)) (list_all in_steps_arg (map arg_tree more)) steps).0 in
+    subst (λ xs. list_all in_steps_parameter (map parameter_tree xs) ≡ true) (ap (λ (x : Text × List Parameter). x.1) e) one
+loop_stepped args index parameters e steps =
+    subst (λ xs. list_all in_steps_parameter (map parameter_tree xs) ≡ true) (ap (λ (x : Text × List Parameter). x.1) e) (grind arith)
+
+module _ (body : Continuation) (index : Text) (parameters : List Parameter) (found : loop_before body.line.value body.at ≡ (index, parameters))
+    (k : ℕ) (q : Parameter) (less : k < length parameters) (is : q ≡ get_or parameters k q) where
+  pub parameter_uncalled : body.line.value.since ≡ 0 → has_call_parameter (parameter_tree q) ≡ false
+  parameter_uncalled none =
+      one_uncalled has_call_parameter parameter_tree parameters k q less is
+      (loop_uncalled (args_before body.line.value body.at) index parameters found
+      (before_uncalled body.line.value body.at (played_plain body.line.value body.played none)))
+
+  pub parameter_stepped : in_steps_parameter (parameter_tree q) ≡ true
+  parameter_stepped =
+      one_stepped in_steps_parameter parameter_tree parameters k q less is
+      (loop_stepped (args_before body.line.value body.at) index parameters found (before_stepped body.line.value body.at body.played))
 
 -- those after an argument go on
 abbrev pub arguments_behind : Position → List ArgTree → Text → ℕ → Progress Entrance → Act (Progress Entrance × List ArgTree)
 arguments_behind p more a n st = behind st more (args_started (context a n p) more)
+
+-- before what no program leads to no step is spent, and before a program one is
+pub plain_ahead : (new old : ℕ) (r : Result (the_progress.Progress entrances.Entrance) Code) → new ≤ old → IfOk r (λ p. IfStops p (IsReady [] 0))
+    → IfOk r (λ p. IfStops p (λ e. new + ahead e ≤ old))
+plain_ahead new old (Ok (progress.Over s)) few ready = tt
+plain_ahead new old (Ok (progress.Stops (entrance.Lines c))) few ready = omega (arith, few)
+plain_ahead new old (Ok (progress.Stops (entrance.Text e))) few ready = omega (arith, few)
+plain_ahead new old (Ok (progress.Stops (entrance.Indirect k p))) few ready = omega (arith, few)
+plain_ahead new old (Ok (progress.Stops (entrance.Paused r))) few ready = absurd (let clash : ◌≡◌ {A = Option Arg} None (Some r.value.arg.now) = ready in cc)
+plain_ahead new old (Err c) few ready = tt
+
+pub most_ahead : (e : entrances.Entrance) → ahead e ≤ 1
+most_ahead (entrance.Lines c) = omega arith
+most_ahead (entrance.Text e) = omega arith
+most_ahead (entrance.Indirect k p) = omega arith
+most_ahead (entrance.Paused r) = omega arith
+
+pub spent_ahead : (new old : ℕ) (r : Result (the_progress.Progress entrances.Entrance) Code) → IfOk r (λ p. IfStops p (λ _. new < old))
+    → IfOk r (λ p. IfStops p (λ e. new + ahead e ≤ old))
+spent_ahead new old (Ok (progress.Over s)) less = tt
+spent_ahead new old (Ok (progress.Stops e)) less = let most = most_ahead e in omega (arith, less, most)
+spent_ahead new old (Err c) less = tt
+
+-- that number of texts may be entered there
+pub enters_fits : (e : entrances.Entrance) (m s n : ℕ) → m + ahead e ≤ s → s < n → Enters e m n
+enters_fits (entrance.Lines c) m s n few less = omega (arith, few, less)
+enters_fits (entrance.Text t) m s n few less = omega (arith, few, less)
+enters_fits (entrance.Indirect k p) m s n few less = omega (arith, few, less)
+enters_fits (entrance.Paused r) m s n few less = omega (arith, few, less)
+
+pub enters_sound : (e : entrances.Entrance) (s n : ℕ) → Enters e s n → s < n
+enters_sound (entrance.Lines c) s n h = h
+enters_sound (entrance.Text t) s n h = h
+enters_sound (entrance.Indirect k p) s n h = h
+enters_sound (entrance.Paused r) s n h = omega (arith, h)
 
 -- a program that has not come to its end
 pub pause_stops : (k : Ending) (w : WholeTree) (r : the_pause.Pause) → ((s : completions.Completion) → r ≡ pause.Over s → ⊥)

@@ -4,11 +4,11 @@ use Rattle.mexec.proofs.ExecWords.{Doubts-same, Doubts-then, undoubted, ◌≡�
 use Rattle.mexec.proofs.ExecWords.{get_or, refl, sym, ◌∙◌, subst, arith, drop_more, IsErr, IsErrAnd, Text, Act, ◌>>=◌, ◌>>◌, give, set_test, ExprTree, ArgTree}
 use Rattle.mexec.proofs.ExecWords.{CommandTree, as_truth, Inside, inside, inside_of, context, value, Go_on, after, Standing, Here, Did, View, Rests, Lists}
 use Rattle.mexec.proofs.ExecWords.{left, frame, Enough, MovedOn, residual_is, did_then, did_failed, did_gives, did_lost, then_follows, then_failed, assoc}
-use Rattle.mexec.proofs.ExecWords.{ended, Ghosts, fault_of, Code, Zmem, standing_of, depth_of, Parts, Does, DoesAt, KeepsLoans, here_of, Runs, view, stack}
+use Rattle.mexec.proofs.ExecWords.{ended, Ghosts, fault_of, Code, Zmem, standing_of, depth_of, Parts, Does, DoesAt, here_of, Runs, view, stack}
 use Rattle.mexec.proofs.ExecWords.{stacked, resting, completion_of, position_of, went, listing, at_done, keeps_at_depth, keeps_itself, keeps_on, Completion}
 use Rattle.mmeaning.proofs.Calls.{did_spent}
 use Rattle.mmeaning.specs.Frames.{Fits}
-use Rattle.mexec.specs.Frames.{RunsIf, RunsWithin}
+use Rattle.mexec.specs.Frames.{RunsFurther, RunsIf, RunsWithin}
 use Rattle.mmeaning.specs.LineMeaning as meaning
 use Rattle.mnodes.specs.Steady.{IsSteady}
 use Rattle.mmeaning.proofs.Moves.{on_then, on_failed, on_lost, on_completion, on_frame, on_top, enough}
@@ -260,46 +260,81 @@ module _ {S A X : Type 0} {g : Ghosts S} {p : Text → ℕ → Act A} (q : Text 
       → IsErr r × IsErrAnd r (λ x. x ≡ e) → RunsWithin g (λ a n. p a n >>= q a n) fs old r fs' new
   within_stopped d h = if_stopped (λ s n. s < n) (λ s n h. omega arith) (λ m s n le h. omega arith) q d h
 
-  -- once a step is spent
-  pub spent_within : {x : X} {fs fs' : List View} {old mid new : Parts S} {r : Result Completion Code} → DoesAt g p f old (Ok x) mid
-      → mid.eval.steps < old.eval.steps → RunsWithin g (λ a n. q a n (f x)) fs mid r fs' new → Runs g (λ a n. p a n >>= q a n) fs old r fs' new
-  spent_within {x = x} {fs = fs} {old = old} {mid = mid} d less k =
-      let few = d.keeps.eval.fewer in
-      record {
-        at = λ sure n ns le e.
-            on_then (q (standing_of old.eval).account n) n le (d.at (undoubted k.doubt sure))
-            (moved_to (λ a. q a n (f x)) (λ a. left a fs ns) d.keeps.eval.same (k.at sure n ns (omega arith) (enough mid.eval.steps old.eval.steps fs ns few e)));
-        doubt = Doubts-then d.doubt k.doubt;
-        keeps = keeps_on d.keeps k.keeps;
-      }
+-- what is done, and then what runs where it may enter another number of texts
+pub then_if : {S A X : Type 0} {g : Ghosts S} {fits more : (steps n : ℕ) → Type 0} {p : Text → ℕ → Act A} (q : Text → ℕ → A → Act meaning.Completion) {f : X → A} {x : X} {fs fs' : List View} {old mid new : Parts S} {r : Result Completion Code}
+    → ((s n : ℕ) → fits s n → s ≤ n) → DoesAt g p f old (Ok x) mid → ((n : ℕ) → fits old.eval.steps n → more mid.eval.steps n)
+    → RunsIf more g (λ a n. q a n (f x)) fs mid r fs' new → RunsIf fits g (λ a n. p a n >>= q a n) fs old r fs' new
+then_if q {f = f} {x = x} {fs = fs} {old = old} {mid = mid} sound d fit k =
+    let few = d.keeps.eval.fewer in
+    record {
+      at = λ sure n ns le e.
+          on_then (q (standing_of old.eval).account n) n (sound old.eval.steps n le) (d.at (undoubted k.doubt sure))
+          (moved_to (λ a. q a n (f x)) (λ a. left a fs ns) d.keeps.eval.same (k.at sure n ns (fit n le) (enough mid.eval.steps old.eval.steps fs ns few e)));
+      doubt = Doubts-then d.doubt k.doubt;
+      keeps = keeps_on d.keeps k.keeps;
+    }
 
--- what is done where one text more may be entered, and then what runs within a command
-module _ {S A X : Type 0} {g : Ghosts S} (p : Text → ℕ → Act A) (q : Text → ℕ → A → Act meaning.Completion) {f : X → A} where
-  pub further_then : {x : X} {fs fs' : List View} {old mid new : Parts S} {r : Result Completion Code} → DoesAt g (λ a n. p a (suc n)) f old (Ok x) mid
-      → RunsWithin g (λ a n. q a n (f x)) fs mid r fs' new → RunsWithin g (λ a n. p a n >>= q a n) fs old r fs' new
-  further_then {x = x} {fs = fs} {fs' = fs'} {old = old} {mid = mid} {new = new} {r = r} d k = record {
+-- after a step of a program
+module _ {S A X : Type 0} {g : Ghosts S} {p : Text → ℕ → Act A} (q : Text → ℕ → A → Act meaning.Completion) {f : X → A} where
+  pub further_on : {x : X} {fs fs' : List View} {old mid new : Parts S} {r : Result Completion Code} → DoesAt g p f old (Ok x) mid
+      → RunsFurther g (λ a n. q a n (f x)) fs mid r fs' new → RunsFurther g (λ a n. p a n >>= q a n) fs old r fs' new
+  further_on d k = if_then (λ s n. suc s < n) (λ s n h. omega (arith, h)) (λ m s n le h. omega (arith, le, h)) q d k
+
+  pub further_failed : {fs fs' : List View} {old new : Parts S} {r : Result Completion Code} {e : Code} → DoesAt g p f old (Err e) new
+      → IsErr r × IsErrAnd r (λ x. x ≡ e) → RunsFurther g (λ a n. p a n >>= q a n) fs old r fs' new
+  further_failed d h = if_stopped (λ s n. suc s < n) (λ s n h. omega (arith, h)) (λ m s n le h. omega (arith, le, h)) q d h
+
+-- what is done where one text more may be entered, and then what runs
+module _ {S A X : Type 0} {g : Ghosts S} {fits : (steps n : ℕ) → Type 0} (sound : (s n : ℕ) → fits s n → s < n) (p : Text → ℕ → Act A) (q : Text → ℕ → A → Act meaning.Completion) {f : X → A} where
+  pub further_if : {more : (steps n : ℕ) → Type 0} {x : X} {fs fs' : List View} {old mid new : Parts S} {r : Result Completion Code}
+      → DoesAt g (λ a n. p a (suc n)) f old (Ok x) mid → ((n : ℕ) → fits old.eval.steps n → more mid.eval.steps n)
+      → RunsIf more g (λ a n. q a n (f x)) fs mid r fs' new → RunsIf fits g (λ a n. p a n >>= q a n) fs old r fs' new
+  further_if {x = x} {fs = fs} {fs' = fs'} {old = old} {mid = mid} {new = new} {r = r} d fit k = record {
     at = go;
     doubt = Doubts-then d.doubt k.doubt;
     keeps = keeps_on d.keeps k.keeps;
   }
     where
-      go : g.doubt new.eval.store.now ≡ 0 → (n : ℕ) (ns : List ℕ) → old.eval.steps < n → Enough old.eval.steps fs ns
+      go : g.doubt new.eval.store.now ≡ 0 → (n : ℕ) (ns : List ℕ) → fits old.eval.steps n → Enough old.eval.steps fs ns
           → MovedOn (standing_of old.eval) (IsSteady g new.eval.store.now) fault_of completion_of (p (standing_of old.eval).account n >>= q (standing_of old.eval).account n) (left (standing_of old.eval).account fs ns) (here_of g old) r fs' (here_of g new)
-      go sure zero ns less e = absurd (omega arith)
-      go sure (suc n) ns less e =
+      go sure zero ns h e = let less = sound old.eval.steps zero h in absurd (omega (arith, less))
+      go sure (suc n) ns h e =
+          let less = sound old.eval.steps (suc n) h in
           let few = d.keeps.eval.fewer in
-          on_then (q (standing_of old.eval).account (suc n)) n (omega arith) (d.at (undoubted k.doubt sure))
-          (moved_to (λ a. q a (suc n) (f x)) (λ a. left a fs ns) d.keeps.eval.same (k.at sure (suc n) ns (omega (arith, few)) (enough mid.eval.steps old.eval.steps fs ns few e)))
+          on_then (q (standing_of old.eval).account (suc n)) n (omega (arith, less)) (d.at (undoubted k.doubt sure))
+          (moved_to (λ a. q a (suc n) (f x)) (λ a. left a fs ns) d.keeps.eval.same (k.at sure (suc n) ns (fit (suc n) h) (enough mid.eval.steps old.eval.steps fs ns few e)))
+
+  pub further_ended : {fs fs' : List View} {old new : Parts S} {r : Result Completion Code} {e : Code} → DoesAt g (λ a n. p a (suc n)) f old (Err e) new
+      → IsErr r × IsErrAnd r (λ x. x ≡ e) → RunsIf fits g (λ a n. p a n >>= q a n) fs old r fs' new
+  further_ended {fs = fs} {fs' = fs'} {old = old} {new = new} {r = r} {e = c} d h =
+      subst (λ r. RunsIf fits g (λ a n. p a n >>= q a n) fs old r fs' new) (sym (residual_is r c h)) (record { at = go; doubt = d.doubt; keeps = d.keeps })
+    where
+      go : g.doubt new.eval.store.now ≡ 0 → (n : ℕ) (ns : List ℕ) → fits old.eval.steps n → Enough old.eval.steps fs ns
+          → MovedOn (standing_of old.eval) (IsSteady g new.eval.store.now) fault_of completion_of (p (standing_of old.eval).account n >>= q (standing_of old.eval).account n) (left (standing_of old.eval).account fs ns) (here_of g old) (Err c) fs' (here_of g new)
+      go sure zero ns h e = let less = sound old.eval.steps zero h in absurd (omega (arith, less))
+      go sure (suc n) ns h e =
+          let less = sound old.eval.steps (suc n) h in
+          on_failed (q (standing_of old.eval).account (suc n)) n (omega (arith, less)) (d.at sure)
+
+-- the same within a command
+module _ {S A X : Type 0} {g : Ghosts S} (p : Text → ℕ → Act A) (q : Text → ℕ → A → Act meaning.Completion) {f : X → A} where
+  pub further_then : {x : X} {fs fs' : List View} {old mid new : Parts S} {r : Result Completion Code} → DoesAt g (λ a n. p a (suc n)) f old (Ok x) mid
+      → RunsWithin g (λ a n. q a n (f x)) fs mid r fs' new → RunsWithin g (λ a n. p a n >>= q a n) fs old r fs' new
+  further_then d k = let few = d.keeps.eval.fewer in further_if (λ s n h. h) p q d (λ n h. omega (arith, few)) k
 
   pub further_stopped : {fs fs' : List View} {old new : Parts S} {r : Result Completion Code} {e : Code} → DoesAt g (λ a n. p a (suc n)) f old (Err e) new
       → IsErr r × IsErrAnd r (λ x. x ≡ e) → RunsWithin g (λ a n. p a n >>= q a n) fs old r fs' new
-  further_stopped {fs = fs} {fs' = fs'} {old = old} {new = new} {r = r} {e = c} d h =
-      subst (λ r. RunsWithin g (λ a n. p a n >>= q a n) fs old r fs' new) (sym (residual_is r c h)) (record { at = go; doubt = d.doubt; keeps = d.keeps })
-    where
-      go : g.doubt new.eval.store.now ≡ 0 → (n : ℕ) (ns : List ℕ) → old.eval.steps < n → Enough old.eval.steps fs ns
-          → MovedOn (standing_of old.eval) (IsSteady g new.eval.store.now) fault_of completion_of (p (standing_of old.eval).account n >>= q (standing_of old.eval).account n) (left (standing_of old.eval).account fs ns) (here_of g old) (Err c) fs' (here_of g new)
-      go sure zero ns less e = absurd (omega arith)
-      go sure (suc n) ns less e = on_failed (q (standing_of old.eval).account (suc n)) n (omega arith) (d.at sure)
+  further_stopped d h = further_ended (λ s n h. h) p q d h
+
+-- what runs where fewer texts may be entered runs where more may be
+pub runs_weaker : {S : Type 0} {g : Ghosts S} {fits more : (steps n : ℕ) → Type 0} {p : Text → ℕ → Act meaning.Completion} {fs fs' : List View} {old new : Parts S} {r : Result Completion Code}
+    → ((n : ℕ) → fits old.eval.steps n → more old.eval.steps n) → RunsIf more g p fs old r fs' new → RunsIf fits g p fs old r fs' new
+runs_weaker fit k = record { at = λ sure n ns h e. k.at sure n ns (fit n h) e; doubt = k.doubt; keeps = k.keeps }
+
+-- what runs within a command runs after a step of a program
+pub runs_further : {S : Type 0} {g : Ghosts S} {p : Text → ℕ → Act meaning.Completion} {fs fs' : List View} {old new : Parts S} {r : Result Completion Code}
+    → RunsWithin g p fs old r fs' new → RunsFurther g p fs old r fs' new
+runs_further k = runs_weaker (λ n h. omega (arith, h)) k
 
 -- what runs anywhere runs within a command
 pub runs_within : {S : Type 0} {g : Ghosts S} {p : Text → ℕ → Act meaning.Completion} {fs fs' : List View} {old new : Parts S} {r : Result Completion Code}
@@ -316,6 +351,16 @@ within_entered {g = g} {p = p} {fs = fs} {fs' = fs'} {old = old} {new = new} {r 
     go sure zero ns less e = absurd (omega arith)
     go sure (suc n) ns less e = k.at sure n ns (omega arith) e
 
+-- the same after a step of a program
+pub further_entered : {S : Type 0} {g : Ghosts S} {p : Text → ℕ → Act meaning.Completion} {fs fs' : List View} {old new : Parts S} {r : Result Completion Code}
+    → RunsWithin g (λ a n. p a (suc n)) fs old r fs' new → RunsFurther g p fs old r fs' new
+further_entered {g = g} {p = p} {fs = fs} {fs' = fs'} {old = old} {new = new} {r = r} k = record { at = go; doubt = k.doubt; keeps = k.keeps }
+  where
+    go : g.doubt new.eval.store.now ≡ 0 → (n : ℕ) (ns : List ℕ) → suc old.eval.steps < n → Enough old.eval.steps fs ns
+        → MovedOn (standing_of old.eval) (IsSteady g new.eval.store.now) fault_of completion_of (p (standing_of old.eval).account n) (left (standing_of old.eval).account fs ns) (here_of g old) r fs' (here_of g new)
+    go sure zero ns less e = absurd (omega arith)
+    go sure (suc n) ns less e = k.at sure n ns (omega arith) e
+
 -- an act that leaves the frames as they are
 pub runs_done : {S : Type 0} {g : Ghosts S} {p : Text → ℕ → Act meaning.Completion} {fs : List View} {old new : Parts S} (r : Result Completion Code)
     → DoesAt g p completion_of old r new → Runs g p fs old r fs new
@@ -326,17 +371,18 @@ nothing_next : (s : meaning.Completion) → ◌≡◌ {A = Act meaning.Completio
 nothing_next Go_on = refl
 nothing_next s = refl
 
--- an act before the rest of a line that may be empty
-pub within_resting : {S : Type 0} {g : Ghosts S} {p : Text → ℕ → Act meaning.Completion} (d : meaning.Position) (l : List CommandTree) {fs fs' : List View} {old new : Parts S} {r : Result Completion Code}
-    → RunsWithin g p (resting d l fs) old r fs' new → RunsWithin g (λ a n. p a n >>= frame a n (Rests d l)) fs old r fs' new
-within_resting {p = p} d [] k = runs_as (λ a n. (λ i. p a n >>= (λ s. nothing_next s i)) ∙ ended (p a n)) k
-within_resting d (c ∷ l) k = frame_below (Rests d (c ∷ l)) (λ s n h. omega arith) k
+module _ {fits : (steps n : ℕ) → Type 0} (sound : (s n : ℕ) → fits s n → s < n) where
+  -- an act before the rest of a line that may be empty
+  pub within_resting : {S : Type 0} {g : Ghosts S} {p : Text → ℕ → Act meaning.Completion} (d : meaning.Position) (l : List CommandTree) {fs fs' : List View} {old new : Parts S} {r : Result Completion Code}
+      → RunsIf fits g p (resting d l fs) old r fs' new → RunsIf fits g (λ a n. p a n >>= frame a n (Rests d l)) fs old r fs' new
+  within_resting {p = p} d [] k = runs_as (λ a n. (λ i. p a n >>= (λ s. nothing_next s i)) ∙ ended (p a n)) k
+  within_resting d (c ∷ l) k = frame_below (Rests d (c ∷ l)) (λ s n h. let less = sound s n h in omega (arith, less)) k
 
--- an act before the rest of a command's arguments, of which there may be none
-pub within_listing : {S : Type 0} {g : Ghosts S} {p : Text → ℕ → Act meaning.Completion} (d : meaning.Position) (args : List ArgTree) {fs fs' : List View} {old new : Parts S} {r : Result Completion Code}
-    → RunsWithin g p (listing d args fs) old r fs' new → RunsWithin g (λ a n. p a n >>= frame a n (Lists d args)) fs old r fs' new
-within_listing {p = p} d [] k = runs_as (λ a n. (λ i. p a n >>= (λ s. nothing_next s i)) ∙ ended (p a n)) k
-within_listing d (x ∷ args) k = frame_below (Lists d (x ∷ args)) (λ s n h. h) k
+  -- an act before the rest of a command's arguments, of which there may be none
+  pub within_listing : {S : Type 0} {g : Ghosts S} {p : Text → ℕ → Act meaning.Completion} (d : meaning.Position) (args : List ArgTree) {fs fs' : List View} {old new : Parts S} {r : Result Completion Code}
+      → RunsIf fits g p (listing d args fs) old r fs' new → RunsIf fits g (λ a n. p a n >>= frame a n (Lists d args)) fs old r fs' new
+  within_listing {p = p} d [] k = runs_as (λ a n. (λ i. p a n >>= (λ s. nothing_next s i)) ∙ ended (p a n)) k
+  within_listing d (x ∷ args) k = frame_below (Lists d (x ∷ args)) sound k
 
 -- ---- frames
 

@@ -26,13 +26,16 @@ use Rattle.mexec.proofs.PlayedTexts.{commands_stepped}
 use Rattle.mmeaning.proofs.ProgramSteps.{each_of}
 use Rattle.mtree.specs.declared.tree.Command.{Command}
 use Rattle.mexec.specs.Arguments.{IsReady}
-use Rattle.mexec.specs.Fronts.{StopsAt, StopsBefore, at_condition, command_started_plainly}
-use Rattle.mexec.specs.Loops.{args_of, spaced_before}
+use Rattle.mexec.specs.Arguments.{ahead}
+use Rattle.mexec.specs.Fronts.{StopFits, StopsAt, StopsBefore, at_condition, command_started_plainly, stop_ahead}
+use Rattle.mexec.specs.Frames.{RunsIf}
+use Rattle.mexec.proofs.ArgumentRuns.{enters_fits, enters_sound}
+use Rattle.mexec.specs.Loops.{args_of}
 use Rattle.mexec.specs.Frames.{command_in}
 use Rattle.mexec.specs.declared.front.Stop.TheVariants as stop
 use Rattle.mexec.proofs.ArgumentRuns.{argument_is}
 use Rattle.mexec.proofs.Loops.{course_runs, turn_begins, turn_done}
-use Rattle.mexec.proofs.Calls.{at_then, at_spent, one_more, at_failed, at_stopped, at_gives, at_as, runs_then, runs_stopped, runs_as, spent_within, some_item}
+use Rattle.mexec.proofs.Calls.{at_then, at_spent, one_more, at_failed, at_stopped, at_gives, at_as, runs_then, runs_stopped, runs_as, then_if, some_item}
 use Rattle.mexec.specs.Frames.{RunsWithin}
 
 -- ---- acts
@@ -147,6 +150,41 @@ begun_stops args (Ok (progress.Over s, at)) quiet = tt
 begun_stops args (Ok (progress.Stops e, at)) quiet = quiet
 begun_stops args (Err c) quiet = tt
 
+pub begun_ahead : (new old : ℕ) (r : Result (the_progress.Progress entrances.Entrance × ℕ) Code) → IfOk r (λ begun. IfStops begun.0 (λ e. new + ahead e ≤ old))
+    → IfOk (stops_at r) (λ o. IfStops o (λ st. new + stop_ahead st ≤ old))
+begun_ahead new old (Ok (progress.Over s, at)) few = tt
+begun_ahead new old (Ok (progress.Stops e, at)) few = few
+begun_ahead new old (Err c) few = tt
+
+-- before what needs no program no step is spent
+pub bare_ahead : (new old : ℕ) (r : Result (the_progress.Progress the_stop.Stop) Code) → new ≤ old → IfOk r (λ o. IfStops o (λ st. stop_ahead st ≡ 0))
+    → IfOk r (λ o. IfStops o (λ st. new + stop_ahead st ≤ old))
+bare_ahead new old (Ok (progress.Over s)) few none = tt
+bare_ahead new old (Ok (progress.Stops st)) few none = omega (arith, few, none)
+bare_ahead new old (Err e) few none = tt
+
+-- and from an earlier point on
+pub ahead_before : (new mid old : ℕ) (r : Result (the_progress.Progress the_stop.Stop) Code) → mid ≤ old → IfOk r (λ o. IfStops o (λ st. new + stop_ahead st ≤ mid))
+    → IfOk r (λ o. IfStops o (λ st. new + stop_ahead st ≤ old))
+ahead_before new mid old (Ok (progress.Over s)) few less = tt
+ahead_before new mid old (Ok (progress.Stops st)) few less = omega (arith, few, less)
+ahead_before new mid old (Err e) few less = tt
+
+-- how many texts may be entered where a command stops
+pub stop_fits : (st : the_stop.Stop) (m s n : ℕ) → m + stop_ahead st ≤ s → s < n → StopFits st m n
+stop_fits (stop.Argument e at) m s n few less = enters_fits e m s n few less
+stop_fits (stop.Loop index ps) m s n few less = omega (arith, few, less)
+stop_fits stop.Turns m s n few less = omega (arith, few, less)
+stop_fits stop.Block m s n few less = omega (arith, few, less)
+stop_fits (stop.Condition c) m s n few less = omega (arith, few, less)
+
+pub stop_sound : (st : the_stop.Stop) (s n : ℕ) → StopFits st s n → s < n
+stop_sound (stop.Argument e at) s n h = enters_sound e s n h
+stop_sound (stop.Loop index ps) s n h = h
+stop_sound stop.Turns s n h = h
+stop_sound stop.Block s n h = h
+stop_sound (stop.Condition c) s n h = h
+
 -- what stops within a command stops at it, though not at its condition
 pub in_command : (c : Command) (st : the_stop.Stop) → StopsIn c.args.items st → StopsAt c st
 in_command c (stop.Condition d) h = absurd h
@@ -252,12 +290,15 @@ module _ {S : Type 0} {g : Ghosts S} (p : Position) (l : Line) (played : IsPlaye
       runs_as (λ a n. commands_is a n p (commands_from l from) (commands_stepped l from played)) (runs_then (λ a n w. line_left (context a n p) w.0 w.1) does k)
 
   -- one that stops within a command, whose step is spent
-  pub front_stops : (from : ℕ) {at : ℕ} {o : the_progress.Progress the_stop.Stop} {fs fs' : List View} {old mid new : Parts S} {r : Result Completion Code}
-      → DoesAt g (λ a n. front (context a n p) (commands_from l from)) (front_of l) old (Ok (o, at)) mid → mid.eval.steps < old.eval.steps
-      → RunsWithin g (λ a n. line_left (context a n p) (front_of l (o, at)).0 (commands_from l at)) fs mid r fs' new
+  pub front_stops : (from : ℕ) {at : ℕ} (st : the_stop.Stop) {fs fs' : List View} {old mid new : Parts S} {r : Result Completion Code}
+      → DoesAt g (λ a n. front (context a n p) (commands_from l from)) (front_of l) old (Ok (progress.Stops st, at)) mid
+      → mid.eval.steps + stop_ahead st < old.eval.steps
+      → RunsIf (StopFits st) g (λ a n. line_left (context a n p) (front_of l (progress.Stops st, at)).0 (commands_from l at)) fs mid r fs' new
       → Runs g (λ a n. commands (context a n p) (commands_from l from)) fs old r fs' new
-  front_stops from does less k =
-      runs_as (λ a n. commands_is a n p (commands_from l from) (commands_stepped l from played)) (spent_within (λ a n w. line_left (context a n p) w.0 w.1) does less k)
+  front_stops from {at = at} st {old = old} {mid = mid} does less k =
+      runs_as (λ a n. commands_is a n p (commands_from l from) (commands_stepped l from played))
+      (then_if {more = StopFits st} (λ a n w. line_left (context a n p) w.0 w.1) (λ s n h. h) does
+      (λ n le. stop_fits st mid.eval.steps (mid.eval.steps + stop_ahead st) n (omega arith) (omega (arith, less, le))) k)
 
   pub front_stopped : (from : ℕ) {fs fs' : List View} {old new : Parts S} {r : Result Completion Code} {e : Code}
       → DoesAt g (λ a n. front (context a n p) (commands_from l from)) (front_of l) old (Err e) new
@@ -277,19 +318,19 @@ module _ {S : Type 0} {g : Ghosts S} (p : Position) (l : Line) (played : IsPlaye
 module _ {S X : Type 0} {g : Ghosts S} {f : X → Unit {0}} {u : X} {fs fs' : List View} (t : ForLoop) {old mid next : Parts S} (gone : DoesAt g (λ a n. advanced (turning t).index (course_view t.course)) (λ (b : Bool). b) old (Ok true) mid)
     (c : DoesAt g (λ a n. charge) f mid (Ok u) next) (less : next.eval.steps < mid.eval.steps) where
   -- its body up to where it stops, and then what is left of that
-  pub turn_stops : {at : ℕ} {o : the_progress.Progress the_stop.Stop} {last new : Parts S} {r : Result Completion Code}
-      → DoesAt g (λ a n. front (context a n (position_of t.body.position.value)) (rest_tree t.body)) (front_of t.body.line.value) next (Ok (o, at)) last
-      → last.eval.steps < next.eval.steps
-      → RunsWithin g (λ a n. line_left (context a n (position_of t.body.position.value)) (front_of t.body.line.value (o, at)).0 (commands_from t.body.line.value at)) (Turns (position_of t.body.position.value) (turning t) ∷ fs) last r fs' new
-      → Runs g (λ a n. meaning.after_course (context a n (position_of t.body.position.value)) (turning t) (course_view t.course)) fs old r fs' new
-  turn_stops does within k =
+  pub turn_stops : {at : ℕ} (st : the_stop.Stop) {last new : Parts S} {r : Result Completion Code}
+      → DoesAt g (λ a n. front (context a n (position_of t.body.position.value)) (rest_tree t.body)) (front_of t.body.line.value) next (Ok (progress.Stops st, at)) last
+      → last.eval.steps + stop_ahead st < next.eval.steps
+      → RunsIf (StopFits st) g (λ a n. line_left (context a n (position_of t.body.position.value)) (front_of t.body.line.value (progress.Stops st, at)).0 (commands_from t.body.line.value at)) (Turns (position_of t.body.position.value) (turning t) ∷ fs) last r fs' new
+      → RunsWithin g (λ a n. meaning.after_course (context a n (position_of t.body.position.value)) (turning t) (course_view t.course)) fs old r fs' new
+  turn_stops st does within k =
       course_runs t gone
-      (turn_begins (position_of t.body.position.value) (turning t) c less (front_stops (position_of t.body.position.value) t.body.line.value t.body.played t.body.at does within k))
+      (turn_begins (position_of t.body.position.value) (turning t) c less (front_stops (position_of t.body.position.value) t.body.line.value t.body.played t.body.at st does within k))
 
   pub turn_stopped : {new : Parts S} {r : Result Completion Code} {e : Code}
       → DoesAt g (λ a n. front (context a n (position_of t.body.position.value)) (rest_tree t.body)) (front_of t.body.line.value) next (Err e) new
       → IsErr r × IsErrAnd r (λ x. x ≡ e)
-      → Runs g (λ a n. meaning.after_course (context a n (position_of t.body.position.value)) (turning t) (course_view t.course)) fs old r fs' new
+      → RunsWithin g (λ a n. meaning.after_course (context a n (position_of t.body.position.value)) (turning t) (course_view t.course)) fs old r fs' new
   turn_stopped does h =
       course_runs t gone
       (turn_begins (position_of t.body.position.value) (turning t) c less (front_stopped (position_of t.body.position.value) t.body.line.value t.body.played t.body.at does h))
@@ -297,7 +338,7 @@ module _ {S X : Type 0} {g : Ghosts S} {f : X → Unit {0}} {u : X} {fs fs' : Li
   -- one that is over
   pub turn_over : {at : ℕ} {s : Completion} {last new : Parts S} {r : Result Completion Code}
       → DoesAt g (λ a n. front (context a n (position_of t.body.position.value)) (rest_tree t.body)) (front_of t.body.line.value) next (Ok (progress.Over s, at)) last
-      → Runs g (λ a n. meaning.after_turn (context a n (position_of t.body.position.value)) (turning t) (completion_of s)) fs last r fs' new → Runs g (λ a n. meaning.after_course (context a n (position_of t.body.position.value)) (turning t) (course_view t.course)) fs old r fs' new
+      → RunsWithin g (λ a n. meaning.after_turn (context a n (position_of t.body.position.value)) (turning t) (completion_of s)) fs last r fs' new → RunsWithin g (λ a n. meaning.after_course (context a n (position_of t.body.position.value)) (turning t) (course_view t.course)) fs old r fs' new
   turn_over does k =
       course_runs t gone
       (turn_done (position_of t.body.position.value) (turning t) c less (front_over (position_of t.body.position.value) t.body.line.value t.body.played t.body.at does) k)

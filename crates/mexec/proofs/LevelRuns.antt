@@ -5,7 +5,7 @@ use Rattle.mexec.proofs.ExecWords.{length, drop, get_or, is_some, slice_get, ref
 use Rattle.mexec.proofs.ExecWords.{IsErrAnd, Text, Act, ◌>>=◌, ◌>>◌, give, give_some, charge, ArgTree, CommandTree, BodyTree, short, spaced_out}
 use Rattle.mexec.proofs.ExecWords.{RoutineLineTree, dots_of, formals_of, indirected, Level, Closing, leaves, restores, deeper, within_indirection, has_dots}
 use Rattle.mexec.proofs.ExecWords.{commands_of, commands_in, Context, Go_on, texts, context, commands, lines_reached, lines_from, lines_next, lines_called}
-use Rattle.mexec.proofs.ExecWords.{line_entered, line_reached, after_level, closed, View, Rests, Lists, Levels, frame, assoc, Ghosts, fault_of, Code, Zmem}
+use Rattle.mexec.proofs.ExecWords.{line_entered, line_reached, after_level, closed, View, Rests, Lists, Levels, frame, assoc, Ghosts, fault_of, Code}
 use Rattle.mexec.proofs.ExecWords.{Evaluates, Parts, Does, DoesAt, here_of, Runs, reached, next_reached, line_then, entering, reaching, level_deeper, so_deep}
 use Rattle.mexec.proofs.ExecWords.{at_next, text_position, on_body, next_item, Zsyntax, Depth, Yields, read_so, in_language, unless, is_none, routine_line_in}
 use Rattle.mexec.proofs.ExecWords.{standing_of}
@@ -19,11 +19,11 @@ use Rattle.meval.specs.declared.eval.Eval.{Eval}
 use Rattle.mexec.specs.declared.completion.Completion as completions
 use Rattle.mexec.specs.declared.completion.Completion.TheVariants as completion
 use Rattle.mcommand.proofs.Calls.{keeps_itself}
-use Rattle.mexec.proofs.Calls.{at_then, at_stopped, at_gives, runs_then, runs_spent, runs_stopped, runs_wanting, runs_as, frame_below, frame_top}
-use Rattle.mexec.proofs.Calls.{runs_completion}
+use Rattle.mexec.proofs.Calls.{at_then, at_stopped, at_gives, runs_then, runs_spent, runs_stopped, runs_as, frame_below, frame_top}
+use Rattle.mexec.proofs.Calls.{runs_completion, further_entered}
 use Rattle.mmeaning.specs.Levels.{wants}
 use Rattle.mexec.specs.Entering.{one_level_deeper}
-use Rattle.mexec.specs.Frames.{RunsWithin}
+use Rattle.mexec.specs.Frames.{RunsFurther, RunsWithin}
 
 -- ---- lists
 
@@ -272,9 +272,9 @@ module _ {S : Type 0} {g : Ghosts S} where
       → RunsWithin g (λ a n. (texts a (suc n)).list p args) fs parts (Ok completion.GoOn) (Lists p args ∷ fs) parts
   list_on_top p args = frame_top (Lists p args) (λ s n h. h)
 
-  -- arguments that a text gives stand on top
-  pub list_opened : (p : Position) (d : Depth) → d ≡ indirected p.depth → {fs : List View} {parts : Parts S} (args : List ArgTree)
-      → RunsWithin g (λ a n. (texts a (suc n)).list (within_indirection p) args) fs parts (Ok completion.GoOn) (Lists (so_deep d p) args ∷ fs) parts
-  list_opened p d is {fs = fs} {parts = parts} args =
-      subst (λ (d : Depth). RunsWithin g (λ a n. (texts a (suc n)).list (within_indirection p) args) fs parts (Ok completion.GoOn) (Lists (so_deep d p) args ∷ fs) parts) (sym is)
-      (list_on_top (within_indirection p) args)
+  -- arguments that a text gives stand on top, one text deeper
+  pub list_entered : (p : Position) (d : Depth) → d ≡ indirected p.depth → {fs : List View} {parts : Parts S} (args : List ArgTree)
+      → RunsFurther g (λ a n. (texts a n).list (within_indirection p) args) fs parts (Ok completion.GoOn) (Lists (so_deep d p) args ∷ fs) parts
+  list_entered p d is {fs = fs} {parts = parts} args =
+      subst (λ (d : Depth). RunsFurther g (λ a n. (texts a n).list (within_indirection p) args) fs parts (Ok completion.GoOn) (Lists (so_deep d p) args ∷ fs) parts) (sym is)
+      (further_entered (list_on_top (within_indirection p) args))

@@ -13,7 +13,6 @@ pub mod LevelRuns
 pub mod ArgumentRuns
 pub mod FrontRuns
 pub mod RareFrames
-pub mod Rooms
 pub mod Texts
 pub mod PlayedTexts
 pub mod ConditionRuns

@@ -1,10 +1,10 @@
 -- SPDX-License-Identifier: Apache-2.0
 -- Programs, a step at a time: what the code does up to where a level opens.
-use Rattle.mexec.proofs.ExecWords.{◌≡◌, ℕ, zero, suc, ◌+◌, ◌-◌, ◌<◌, Bool, true, false, List, [], ◌∷◌, Option, None, Some, Result, Ok, Err, slice_get, length}
+use Rattle.mexec.proofs.ExecWords.{◌≡◌, ℕ, zero, suc, ◌+◌, ◌<◌, Bool, true, false, List, [], ◌∷◌, Option, None, Some, Result, Ok, Err, slice_get, length}
 use Rattle.mexec.proofs.ExecWords.{drop, refl, sym, ◌∙◌, subst, arith, ap, IsErr, IsErrAnd, Text, Act, ◌>>=◌, ◌>>◌, give, set_test, as_truth, Context, Go_on}
-use Rattle.mexec.proofs.ExecWords.{context, Position, depth_of, inside, position_of, assoc, Ghosts, Code, Parts, Does, DoesAt, completion_of, went, at_done}
+use Rattle.mexec.proofs.ExecWords.{context, depth_of, inside, position_of, assoc, Ghosts, Code, Parts, Does, DoesAt, completion_of, went}
 use Rattle.mexec.proofs.ExecWords.{Completion}
-use Rattle.std.specs.Prelude.{IfErr, IfOk, cond, option_map, ◌≤◌}
+use Rattle.std.specs.Prelude.{IfErr, IfOk, cond, ◌≤◌}
 use Rattle.mgrammar.specs.Grammar.{EntryTree}
 use Rattle.mmeaning.specs.LineMeaning as meaning
 use Rattle.mspec.specs.Act.{fail}
@@ -12,7 +12,8 @@ use Rattle.mspec.specs.Code as spec
 use Rattle.moperator.specs.declared.code.Code.TheVariants as code
 use Rattle.mmeaning.specs.LineMeaning.{where_true, truth_tested, returned_value}
 use Rattle.mmeaning.specs.Operators.{as_number}
-use Rattle.mmeaning.specs.Programs.{Item, one_value, some_values, found, placed, walked, made, handing, Op, Call, Unless, Pass, Ending, plain, step, Pause}
+use Rattle.mmeaning.specs.Programs.{Item, one_value, some_values, some_numbers, some_names, found, placed, walked, made, handing, Op, Call, Unless, Pass}
+use Rattle.mmeaning.specs.Programs.{Ending, plain, step, Pause}
 use Rattle.mmeaning.specs.Programs.{sought, over, calls, begun_on, begun_past, begun}
 use Rattle.mprogram.specs.Views.{op_view, ending_view}
 use Rattle.mprogram.specs.Wholes.{WholeTree, steps_of, ending_of}
@@ -131,6 +132,8 @@ module _ (x : Context) where
   call_begun e ops k (sought p ∷ st) = refl
   call_begun e ops k (made ps ∷ st) = refl
   call_begun e ops k (handing b bs ∷ st) = refl
+  call_begun e ops k (some_numbers ns ∷ st) = refl
+  call_begun e ops k (some_names ns ∷ st) = refl
 
   -- once steps are passed by, those after them are left
   past_begun : (n : ℕ) (ops : List Op) (k : Ending) (st : List Item) → Same (begun_past x n ops k st) (begun x (drop n ops) k st)
@@ -153,6 +156,8 @@ module _ (x : Context) where
   condition_begun n ops k (sought p ∷ st) = refl
   condition_begun n ops k (made ps ∷ st) = refl
   condition_begun n ops k (handing b bs ∷ st) = refl
+  condition_begun n ops k (some_numbers ns ∷ st) = refl
+  condition_begun n ops k (some_names ns ∷ st) = refl
 
   -- its value, or what comes after that
   either_begun : (b : Bool) (at n : ℕ) (ops : List Op) (k : Ending) (st : List Item)
@@ -172,12 +177,18 @@ module _ (x : Context) where
 
 -- what a command does in the end with a value
 pub ends_by_value : (x : Context) (k : the_ending.Ending) (st : List Item) → (k ≡ ending.Assign → ⊥)
-    → ((e : _) (is_listed : Bool) → k ≡ ending.Enter e is_listed → ⊥) → ((e : _) → k ≡ ending.Go e → ⊥)
+    → ((e : _) (is_listed : Bool) → k ≡ ending.Enter e is_listed → ⊥) → ((e : _) → k ≡ ending.Go e → ⊥) → (k ≡ ending.Kill → ⊥)
+    → ((kind : _) (is_timed : Bool) → k ≡ ending.Lock kind is_timed → ⊥) → (k ≡ ending.Nothing → ⊥)
+    → ((index : _) (rest : _) (body : _) → k ≡ ending.Loop index rest body → ⊥)
     → ◌≡◌ {A = Act Pause} (ends x (ending_view k) st) (value_on_top st >>= (λ v. ends_with (ending_view k) v.0))
-ends_by_value x ending.Assign st assigns enters goes = absurd (assigns refl)
-ends_by_value x (ending.Enter e is_listed) st assigns enters goes = absurd (enters e is_listed refl)
-ends_by_value x (ending.Go e) st assigns enters goes = absurd (goes e refl)
-ends_by_value x k st assigns enters goes = refl
+ends_by_value x ending.Assign st assigns enters goes kills locks nothing loops = absurd (assigns refl)
+ends_by_value x (ending.Enter e is_listed) st assigns enters goes kills locks nothing loops = absurd (enters e is_listed refl)
+ends_by_value x (ending.Go e) st assigns enters goes kills locks nothing loops = absurd (goes e refl)
+ends_by_value x ending.Kill st assigns enters goes kills locks nothing loops = absurd (kills refl)
+ends_by_value x (ending.Lock kind is_timed) st assigns enters goes kills locks nothing loops = absurd (locks kind is_timed refl)
+ends_by_value x ending.Nothing st assigns enters goes kills locks nothing loops = absurd (nothing refl)
+ends_by_value x (ending.Loop index rest body) st assigns enters goes kills locks nothing loops = absurd (loops index rest body refl)
+ends_by_value x k st assigns enters goes kills locks nothing loops = refl
 
 -- ---- calls
 

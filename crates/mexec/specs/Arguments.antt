@@ -1,10 +1,9 @@
 -- SPDX-License-Identifier: Apache-2.0
 -- An argument of a command, as the code does it: up to where it enters lines or a text, or a text gives arguments, and then that.
-use Rattle.std.specs.Prelude.{◌≡◌, ℕ, ◌+◌, ◌-◌, ◌*◌, ◌≤◌, cond, List, [], ◌∷◌, slice_get, Some, Result, Ok, Err, Bool, true, false}
+use Rattle.std.specs.Prelude.{◌≡◌, ◌<◌, ℕ, suc, ◌-◌, cond, List, [], ◌∷◌, slice_get, Some, Result, Ok, Err, Bool, true, false}
 use Rattle.mspec.specs.Act.{Act, ◌>>=◌, give}
 use Rattle.mgrammar.specs.Grammar.{ExprTree, EntryTree, ActualsTree, PrimaryTree, FormTree, ArgTree, do_one, executed, indirect_args}
 use Rattle.mgrammar.specs.CallsIn.{has_call, has_call_actuals, has_call_arg, has_call_primary}
-use Rattle.mgrammar.specs.ProgramsIn.{in_steps_arg}
 use Rattle.mgrammar.specs.Commands.{form_of}
 use Rattle.mmeaning.specs.LineMeaning as meaning
 use Rattle.mmeaning.specs.LineMeaning.{Position, Go_on, Context, inside_of, holds, after, argument, arguments, doing, executing}
@@ -12,11 +11,10 @@ use Rattle.mmeaning.specs.Frames.{View, Lists, resumed}
 use Rattle.mmeaning.specs.Programs as programs
 use Rattle.mmeaning.specs.Programs.{Ending, Pause, begun}
 use Rattle.mprogram.specs.Wholes.{of_argument, steps_of, ending_of}
-use Rattle.mexec.specs.Programs.{pause_of, room_for}
+use Rattle.mexec.specs.Programs.{pause_of}
 use Rattle.mtree.specs.Tree.{arg_tree, called_tree, expr_tree, keyword_tree, primary_tree}
 use Rattle.mtree.specs.declared.tree.Arg.{Arg}
 use Rattle.moperator.specs.declared.code.Code.{Code}
-use Rattle.mcommand.specs.declared.parts.Parts.{Parts}
 use Rattle.mexec.specs.declared.arguments.Entrance as entrances
 use Rattle.mexec.specs.declared.arguments.Entrance.TheVariants as entrance
 use Rattle.mexec.specs.declared.completion.Progress as the_progress
@@ -80,16 +78,16 @@ IsReady args at (entrance.Text e) = has_call (expr_tree e.now) ≡ false
 IsReady args at (entrance.Indirect k p) = has_call_primary (primary_tree p.now) ≡ false
 IsReady args at (entrance.Paused r) = slice_get args (at - 1) ≡ Some r.value.arg.now
 
--- how many frames it may put beyond what the steps that it spends let fall: a text that a program comes to puts two, above the arguments after it
-abbrev pub room : entrances.Entrance → ℕ
-room (entrance.Lines c) = 0
-room (entrance.Text e) = 0
-room (entrance.Indirect k p) = 0
-room (entrance.Paused r) = room_for r.value.pause
+-- how many steps are spent before something is entered: an argument's own program spends one before its first call, or before what passes
+-- that by
+abbrev pub ahead : entrances.Entrance → ℕ
+ahead (entrance.Paused r) = 1
+ahead e = 0
 
--- a step that was spent up to there makes room for them
-abbrev pub HasRoom : {S : Type 0} → Parts S → Parts S → entrances.Entrance → Type 0
-HasRoom old new e = 6 * new.eval.steps + room e ≤ 6 * old.eval.steps
+-- so it may enter one text more than others within a command
+abbrev pub Enters : entrances.Entrance → (steps n : ℕ) → Type 0
+Enters (entrance.Paused r) steps n = suc steps < n
+Enters e steps n = steps < n
 
 abbrev pub start_of : the_progress.Progress entrances.Entrance → Progress Entrance
 start_of = progress_of entrance_of

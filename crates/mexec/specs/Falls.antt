@@ -36,6 +36,11 @@ abbrev pub FallsByEntry : {S X E : Type 0} → Parts S → Scratch → Result X 
 FallsByEntry old scratch result new scratch' =
     IfOk result (λ _. 6 * new.eval.steps + size scratch'.frames.items + 4 ≤ 6 * old.eval.steps + size scratch.frames.items)
 
+-- with some frames more
+abbrev pub FallsBy : {S X E : Type 0} → (more : ℕ) → Parts S → Scratch → Result X E → Parts S → Scratch → Type 0
+FallsBy more old scratch result new scratch' =
+    IfOk result (λ _. 6 * new.eval.steps + size scratch'.frames.items ≤ 6 * old.eval.steps + size scratch.frames.items + more)
+
 -- with two frames more: of a program that ends with a text
 abbrev pub FallsByTwo : {S X E : Type 0} → Parts S → Scratch → Result X E → Parts S → Scratch → Type 0
 FallsByTwo old scratch result new scratch' =

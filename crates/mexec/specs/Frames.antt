@@ -1,6 +1,6 @@
 -- SPDX-License-Identifier: Apache-2.0
 -- Frames of the program as those of the definitions, and what calls say of them.
-use Rattle.std.specs.Prelude.{◌≡◌, ℕ, ◌≤◌, ◌<◌, List, [], ◌∷◌, Option, Some, None, Result, Ok, Err, map, drop, true}
+use Rattle.std.specs.Prelude.{◌≡◌, ℕ, suc, ◌≤◌, ◌<◌, List, [], ◌∷◌, Option, Some, None, Result, Ok, Err, map, drop, true}
 use Rattle.mspec.specs.Act.{Text, Act}
 use Rattle.mgrammar.specs.Grammar.{CommandTree, quit_word}
 use Rattle.mmeaning.specs.LineMeaning as meaning
@@ -22,6 +22,7 @@ use Rattle.mcommand.specs.declared.parts.Parts.{Parts}
 use Rattle.mcommand.specs.Does.{KeepsLoans, here_of}
 use Rattle.mcommand.specs.Targets.{target_view}
 use Rattle.mcommand.specs.ForParameters.{course_view}
+use Rattle.mcommand.specs.declared.for_parameter.Course.{Course}
 use Rattle.mcommand.specs.Steps.{items_view}
 pub use Rattle.mexec.specs.Loops.{loop_in, args_of, args_before, loop_before, spaced_before}
 pub use Rattle.mexec.specs.Wholes.{whole_of, steps_within, ending_within}
@@ -71,10 +72,14 @@ commands_from l at = map (λ c. c.0) (map spaced_tree (drop at l.commands.items)
 abbrev pub rest_tree : Continuation → List CommandTree
 rest_tree r = commands_from r.line.value r.at
 
+-- a FOR of which this body is the rest of the line, from one of its parameters on
+abbrev pub turning_at : Continuation → ℕ → Course → Turning
+turning_at body parameter course =
+    let found = loop_before body.line.value body.at in
+    record { index = found.0; course = course_view course; parameters = map parameter_tree (drop parameter found.1); body = rest_tree body }
+
 abbrev pub turning : loops.ForLoop → Turning
-turning t =
-    let found = loop_before t.body.line.value t.body.at in
-    record { index = found.0; course = course_view t.course; parameters = map parameter_tree (drop t.parameter found.1); body = rest_tree t.body }
+turning t = turning_at t.body t.parameter t.course
 
 -- where arguments are done, and which they are
 abbrev pub source_position : Source → position.Position
@@ -95,6 +100,7 @@ abbrev pub holder_position : Holder → position.Position
 holder_position (holder.Line behind at) = behind.position.value
 holder_position (holder.Text given at) = given.value.position
 holder_position (holder.Condition behind) = behind.position.value
+holder_position (holder.Parameter body at) = body.position.value
 
 -- a command, of which there always is one
 abbrev pub command_in : Option Spaced → CommandTree
@@ -140,6 +146,11 @@ Runs = RunsIf (λ steps n. steps ≤ n)
 abbrev pub RunsWithin : {S : Type 0} → Ghosts S → (Text → ℕ → Act meaning.Completion) → List View → Parts S → Result Completion Code → List View → Parts S
     → Type 0
 RunsWithin = RunsIf (λ steps n. steps < n)
+
+-- two more, as after a step of a program
+abbrev pub RunsFurther : {S : Type 0} → Ghosts S → (Text → ℕ → Act meaning.Completion) → List View → Parts S → Result Completion Code → List View → Parts S
+    → Type 0
+RunsFurther = RunsIf (λ steps n. suc steps < n)
 
 -- what the frames have to do with a completion is what is left of an act
 pub record Leads {S : Type 0} (g : Ghosts S) (p : Text → ℕ → Act meaning.Completion) (old : Parts S) (fs : List View) (s : meaning.Completion) (new : Parts S) : Type 0 where

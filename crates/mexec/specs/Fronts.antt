@@ -1,6 +1,6 @@
 -- SPDX-License-Identifier: Apache-2.0
 -- How far arguments, a command and a line are done before a frame is needed, and what is then left of them.
-use Rattle.std.specs.Prelude.{◌≡◌, ℕ, ◌+◌, ◌*◌, ◌≤◌, cond, List, [], ◌∷◌, Option, None, Some, Result, Ok, Err, true, map, drop}
+use Rattle.std.specs.Prelude.{◌≡◌, ◌<◌, ℕ, cond, List, [], ◌∷◌, Option, None, Some, Result, Ok, Err, true, map, drop}
 use Rattle.mspec.specs.Act.{Text, Act, ◌>>=◌, ◌>>◌, give, fail, charge}
 use Rattle.mspec.specs.Code.{M16}
 use Rattle.mgrammar.specs.Grammar.{KeywordTree, for_word, do_word, ParameterTree, ArgTree, loop, CommandTree}
@@ -15,14 +15,13 @@ use Rattle.mtree.specs.declared.tree.Spaced.{Spaced}
 use Rattle.mtree.specs.declared.tree.Arg.{Arg}
 use Rattle.mtree.specs.declared.tree.Line.{Line}
 use Rattle.moperator.specs.declared.code.Code.{Code}
-use Rattle.mcommand.specs.declared.parts.Parts.{Parts}
 use Rattle.mexec.specs.declared.arguments.Entrance as entrances
 use Rattle.mexec.specs.declared.completion.Progress as the_progress
 use Rattle.mexec.specs.declared.completion.Progress.TheVariants as progress
 use Rattle.mexec.specs.declared.front.Stop as the_stop
 use Rattle.mexec.specs.declared.front.Stop.TheVariants as stop
 use Rattle.mexec.specs.Progress.{Progress, over, stops, behind, progress_of}
-use Rattle.mexec.specs.Arguments.{Entrance, IsReady, room, started, entered_then, start_of, entrance_of}
+use Rattle.mexec.specs.Arguments.{Entrance, Enters, IsReady, ahead, started, entered_then, start_of, entrance_of}
 use Rattle.mexec.specs.Frames.{commands_from}
 use Rattle.mexec.specs.Loops.{loop_in, is_loop, args_before}
 
@@ -129,6 +128,15 @@ outcome_of args = progress_of (stop_of args)
 abbrev pub front_of : Line → the_progress.Progress the_stop.Stop × ℕ → Progress Stop × List CommandTree
 front_of l w = (outcome_of (args_before l w.1) w.0, commands_from l w.1)
 
+-- how many steps are spent in a command before it stops, besides its own, and how many texts may be entered where it does
+abbrev pub stop_ahead : the_stop.Stop → ℕ
+stop_ahead (stop.Argument e at) = ahead e
+stop_ahead st = 0
+
+abbrev pub StopFits : the_stop.Stop → (steps n : ℕ) → Type 0
+StopFits (stop.Argument e at) steps n = Enters e steps n
+StopFits st steps n = steps < n
+
 -- what a stop says of the arguments of its command, in which each call stands where steps are
 abbrev pub StopsIn : List Arg → the_stop.Stop → Type 0
 StopsIn args (stop.Argument e at) = IsReady args at e
@@ -146,18 +154,6 @@ StopsAt c st = StopsIn c.args.items st
 abbrev pub StopsBefore : Option Spaced → the_stop.Stop → Type 0
 StopsBefore None st = ⊥
 StopsBefore (Some s) st = StopsAt s.command st
-
--- how many frames it may put beyond what the steps that it spends let fall, if its condition has no call
-abbrev pub stop_room : the_stop.Stop → ℕ
-stop_room (stop.Argument e at) = room e
-stop_room (stop.Loop index parameters) = 0
-stop_room stop.Turns = 0
-stop_room stop.Block = 0
-stop_room (stop.Condition c) = 0
-
--- a step that was spent up to there makes room for them
-abbrev pub StopHasRoom : {S : Type 0} → Parts S → Parts S → the_stop.Stop → Type 0
-StopHasRoom old new st = 6 * new.eval.steps + stop_room st ≤ 6 * old.eval.steps
 
 -- arguments as an outcome
 abbrev pub at_begun : the_progress.Progress entrances.Entrance → ℕ → the_progress.Progress the_stop.Stop

@@ -1,17 +1,22 @@
 -- SPDX-License-Identifier: Apache-2.0
 -- Programs as the code carries them out: what they come to, and what a command does in the end.
-use Rattle.std.specs.Prelude.{ℕ, ◌+◌, ◌^◌, ◌<◌, List, Result, Ok, Err, OkIff, cond, map, drop}
+use Rattle.std.specs.Prelude.{ℕ, ◌+◌, ◌^◌, ◌<◌, List, [], Result, Ok, Err, OkIff, true, false, None, Some, cond, map, option_map, drop}
 use Rattle.mspec.specs.Act.{Text, Act, ◌>>=◌, ◌>>◌, give, write}
 use Rattle.mmeaning.specs.Operators.{as_number, as_truth}
-use Rattle.mmeaning.specs.LineMeaning as meaning
 use Rattle.mmeaning.specs.LineMeaning.{Go_on, Returns, Context, all_assigned, spaced_to, character_written, truth_tested, where_true, going}
-use Rattle.mmeaning.specs.Programs.{Item, Ending, Assign, Show, Tab, Character, Test, Hold, Wait, Return, Run, Enter, Go, Pause, over, calls, enters, executes}
-use Rattle.mgrammar.specs.Grammar.{EntryTree}
-use Rattle.mtree.specs.Tree.{entry_tree}
+use Rattle.mmeaning.specs.Programs.{Item, Ending, Assign, Show, Tab, Character, Test, Hold, Wait, Return, Enter, Go, Kill, Lock, Indirect, Nothing}
+use Rattle.mmeaning.specs.Programs.{Loop, Pause, over, calls, enters, executes, lists, turns, begun, lock_done, looped}
+use Rattle.meval.specs.Acts.{kill_act}
+use Rattle.mmeaning.specs.LineMeaning.{inside_of}
+use Rattle.mgrammar.specs.Grammar.{EntryTree, ParameterTree, CommandTree}
+use Rattle.mgrammar.specs.Commands.{form_of}
+use Rattle.mgrammar.specs.CallsIn.{has_call_parameter}
+use Rattle.mtree.specs.Tree.{entry_tree, keyword_tree}
+use Rattle.mcommand.specs.ForParameters.{course_view, started}
 use Rattle.mlocal.specs.Bindings.{binding_of}
 use Rattle.moperator.specs.declared.code.Code.{Code}
-use Rattle.mprogram.specs.Wholes.{WholeTree, steps_of}
-use Rattle.mcommand.specs.Steps.{items_view, value_on_top, targets_on_top, handing_on_top}
+use Rattle.mprogram.specs.Wholes.{WholeTree, of_parameter, steps_of, ending_of}
+use Rattle.mcommand.specs.Steps.{items_view, value_on_top, found_on_top, targets_on_top, handing_on_top, names_on_top, item_on_top}
 use Rattle.mexec.specs.Frames.{completion_of}
 use Rattle.mexec.specs.declared.completion.Completion.{Completion}
 use Rattle.mexec.specs.declared.programs.Call as the_call
@@ -28,13 +33,8 @@ pause_of w (pause.Over s) = over (completion_of s)
 pause_of w (pause.Calls c) = call_of w c
 pause_of w (pause.Enters e is_listed bs) = enters (entry_tree e.now) is_listed (map binding_of bs.items)
 pause_of w (pause.Executes v) = executes v
-
--- how many frames a pause may put, and one more, beyond three for each step that it spends: a text puts two, and spends none
-abbrev pub room_for : the_pause.Pause → ℕ
-room_for (pause.Over s) = 3
-room_for (pause.Calls c) = 0
-room_for (pause.Enters e is_listed bs) = 0
-room_for (pause.Executes v) = 3
+pause_of w (pause.Lists k v) = lists (form_of (keyword_tree k)) v
+pause_of w (pause.Turns c) = turns (option_map course_view c)
 
 -- a completion as such
 abbrev pub pauses : Result Completion Code → Result the_pause.Pause Code
@@ -69,6 +69,7 @@ ends_with Test v = truth_tested v >>= (λ s. give (over s))
 ends_with Hold v = as_truth v >>= (λ b. give (over (where_true b)))
 ends_with Wait v = as_number v >> give (over Go_on)
 ends_with Return v = give (over (Returns v))
+ends_with (Indirect f) v = give (lists f v)
 ends_with k v = give (executes v)
 
 abbrev pub ends : Context → Ending → List Item → Act Pause
@@ -81,6 +82,32 @@ ends x (Enter e is_listed) st = do
   taken ← handing_on_top st
   give (enters e is_listed taken.0.1)
 ends x (Go e) st = going x e >>= (λ s. give (over s))
+ends x Kill st = do
+  r ← found_on_top st
+  kill_act r.0
+  give (over Go_on)
+ends x (Lock k true) st = do
+  v ← value_on_top st
+  ns ← names_on_top v.1
+  lock_done k ns.0 (Some v.0)
+  give (over Go_on)
+ends x (Lock k false) st = do
+  ns ← names_on_top st
+  lock_done k ns.0 None
+  give (over Go_on)
+ends x Nothing st = give (over Go_on)
+ends x (Loop index rest body) st = do
+  i ← item_on_top st
+  c ← looped index i.0
+  give (turns c)
 ends x k st = do
   v ← value_on_top st
   ends_with k v.0
+
+-- ---- a parameter of FOR
+
+-- how far it comes by itself: one with a call does its program
+abbrev pub parameter_started : Context → Text → ParameterTree → List ParameterTree → List CommandTree → Act Pause
+parameter_started x index q rest body =
+    cond (has_call_parameter q) (begun x (steps_of (of_parameter index q rest body)) (ending_of (of_parameter index q rest body)) [])
+    (started (inside_of x) index q >>= (λ c. give (turns c)))

@@ -1,17 +1,16 @@
 // SPDX-License-Identifier: Apache-2.0
 // The arguments of a command, one after another.
-ghost use Rattle.std.specs.Prelude.{◌≡◌, ◌≤◌, ◌<◌, ◌+◌, ◌-◌, ◌*◌, ℕ, suc, List, Some, false, true, map, drop, slice_get, IfErr, IfOk};
+ghost use Rattle.std.specs.Prelude.{◌≡◌, ◌≤◌, ◌<◌, ◌+◌, ◌*◌, ◌-◌, ℕ, suc, List, Some, false, true, map, drop, slice_get, IfErr, IfOk};
 ghost use Rattle.std.specs.List.{list_all, list_any};
 ghost use Rattle.mgrammar.specs.CallsIn.{has_call, has_call_arg as the_has_call_arg, has_call_optional};
 ghost use Rattle.mgrammar.specs.ProgramsIn.{in_steps_arg};
 ghost use Rattle.mmeaning.specs.LineMeaning as meaning;
 ghost use Rattle.mexec.specs.Words.{DoesAt, arg_tree, condition_tree, context, depth_of, entry_tree, expr_tree, inside};
-ghost use Rattle.mexec.specs.Falls.{size, Falls};
-ghost use Rattle.mexec.specs.Frames.{RunsWithin, completion_of, went, source_args, source_position, position_of, stack};
+ghost use Rattle.mexec.specs.Falls.{Falls, FallsBy, FallsByTwo};
+ghost use Rattle.mexec.specs.Frames.{RunsFurther, RunsIf, RunsWithin, completion_of, went, source_args, source_position, position_of, stack};
 ghost use Rattle.mexec.specs.Progress.{IfStops, ends};
 ghost use Rattle.mexec.specs.Fronts.{args_started, begun_of};
-ghost use Rattle.mexec.specs.Arguments.{HasRoom, IsReady, room, started, started_plainly, start_of, where_applies, entrance_of, entered, entered_then};
-ghost use Rattle.mexec.specs.Programs.{room_for};
+ghost use Rattle.mexec.specs.Arguments.{Enters, IsReady, ahead, started, started_plainly, start_of, where_applies, entrance_of, entered, entered_then};
 ghost use Rattle.moperator.specs.declared.code.Code.TheVariants.{Zmem};
 
 use crate::completion::{Completion, Progress, over, went_on, where_true};
@@ -180,8 +179,9 @@ fn calls_in_argument(arg: &Arg, may_call: bool) -> bool
     if may_call { has_call_arg(arg) } else { false }
 }
 
-// That a step was spent: these are left of as many as there were. Else it is out of memory.
-fn one_spent(left: u32, before: u32) -> Result<(), Code>
+// That a step was spent: these are left of as many as there were. Else it is out of memory, which no line is: a call costs a step, and so
+// does the $SELECT that passes one by.
+pub(crate) fn one_spent(left: u32, before: u32) -> Result<(), Code>
     ensures spent { IfOk result (λ _. left < before) }
     ensures wants { IfErr result (λ code. code ≡ Zmem) }
 {
@@ -189,20 +189,6 @@ fn one_spent(left: u32, before: u32) -> Result<(), Code>
         Ok(())
     } else {
         Err(Code::Zmem)
-    }
-}
-
-// That a program which comes to a text has spent a step, as each has: the first step of an expression spends one.
-fn spent_before(pause: &Pause, left: u32, before: u32) -> Result<(), Code>
-    requires { left ≤ before }
-    ensures room { IfOk result (λ _. 6 * left + room_for pause.now ≤ 6 * before) }
-    ensures wants { IfErr result (λ code. code ≡ Zmem) }
-{
-    match pause {
-        Pause::Over(_) => one_spent(left, before),
-        Pause::Calls(_) => Ok(()),
-        Pause::Enters(_, _, _) => Ok(()),
-        Pause::Executes(_) => one_spent(left, before),
     }
 }
 
@@ -217,17 +203,17 @@ fn program_begun<'t, S: NodeStore>(
 ) -> Result<Progress<Entrance<'t>>, Code>
     requires calls { the_has_call_arg (arg_tree arg.now) ≡ true }
     requires stepped { in_steps_arg (arg_tree arg.now) ≡ true }
+    ensures spent { IfOk result (λ progress. IfStops progress (λ _. parts.new.eval.steps < parts.old.eval.steps)) }
     ensures enters { (args : List Arg) (at : ℕ) → slice_get args (at - 1) ≡ Some arg.now → IfOk result (λ progress. IfStops progress (IsReady args at)) }
-    ensures room { IfOk result (λ progress. IfStops progress (HasRoom parts.old parts.new)) }
     ensures does { DoesAt S.NodeStore (λ a n. started (context a (suc n) (position_of position.now)) (arg_tree arg.now)) start_of parts.old result parts.new }
 {
-    let steps = parts.eval.steps;
+    let before = parts.eval.steps;
     let whole = Whole::Argument(arg);
     let pause = begun(alloc, parts, position, whole, 0, Vec::new(alloc))?;
     match pause {
         Pause::Over(completion) => Ok(Progress::Over(completion)),
         other => {
-            spent_before(&other, parts.eval.steps, steps)?;
+            one_spent(parts.eval.steps, before)?;
             let boxed = Box::new(alloc, Paused { arg, pause: other })?;
             Ok(Progress::Stops(Entrance::Paused(boxed)))
         }
@@ -245,8 +231,8 @@ fn argument_begun<'t, S: NodeStore>(
 ) -> Result<Progress<Entrance<'t>>, Code>
     requires plain { may_call ≡ false → the_has_call_arg (arg_tree arg.now) ≡ false }
     requires stepped { in_steps_arg (arg_tree arg.now) ≡ true }
+    ensures ahead { IfOk result (λ progress. IfStops progress (λ e. parts.new.eval.steps + ahead e ≤ parts.old.eval.steps)) }
     ensures enters { (args : List Arg) (at : ℕ) → slice_get args (at - 1) ≡ Some arg.now → IfOk result (λ progress. IfStops progress (IsReady args at)) }
-    ensures room { IfOk result (λ progress. IfStops progress (HasRoom parts.old parts.new)) }
     ensures does { DoesAt S.NodeStore (λ a n. started (context a (suc n) (position_of position.now)) (arg_tree arg.now)) start_of parts.old result parts.new }
 {
     if calls_in_argument(arg, may_call) {
@@ -269,8 +255,8 @@ fn arguments_in_turn<'t, S: NodeStore>(
 ) -> Result<(Progress<Entrance<'t>>, usize), Code>
     requires plain { may_call ≡ false → list_any the_has_call_arg (map arg_tree args.now) ≡ false }
     requires stepped { list_all in_steps_arg (map arg_tree args.now) ≡ true }
+    ensures ahead { IfOk result (λ begun. IfStops begun.0 (λ e. parts.new.eval.steps + ahead e ≤ parts.old.eval.steps)) }
     ensures enters { IfOk result (λ begun. IfStops begun.0 (IsReady args.now begun.1)) }
-    ensures room { IfOk result (λ begun. IfStops begun.0 (HasRoom parts.old parts.new)) }
     ensures does { DoesAt S.NodeStore (λ a n. args_started (context a (suc n) (position_of position.now)) (map arg_tree (drop from args.now)))
         (begun_of args.now) parts.old result parts.new }
 {
@@ -297,8 +283,8 @@ fn arguments_calling<'t, S: NodeStore>(
     from: usize,
 ) -> Result<(Progress<Entrance<'t>>, usize), Code>
     requires stepped { list_all in_steps_arg (map arg_tree args.now) ≡ true }
+    ensures ahead { IfOk result (λ begun. IfStops begun.0 (λ e. parts.new.eval.steps + ahead e ≤ parts.old.eval.steps)) }
     ensures enters { IfOk result (λ begun. IfStops begun.0 (IsReady args.now begun.1)) }
-    ensures room { IfOk result (λ begun. IfStops begun.0 (HasRoom parts.old parts.new)) }
     ensures does { DoesAt S.NodeStore (λ a n. args_started (context a (suc n) (position_of position.now)) (map arg_tree (drop from args.now)))
         (begun_of args.now) parts.old result parts.new }
 {
@@ -318,8 +304,8 @@ pub(crate) fn arguments_begun<'t, S: NodeStore>(
 ) -> Result<(Progress<Entrance<'t>>, usize), Code>
     requires plain { may_call ≡ false → list_any the_has_call_arg (map arg_tree args.now) ≡ false }
     requires stepped { list_all in_steps_arg (map arg_tree args.now) ≡ true }
+    ensures ahead { IfOk result (λ begun. IfStops begun.0 (λ e. parts.new.eval.steps + ahead e ≤ parts.old.eval.steps)) }
     ensures enters { IfOk result (λ begun. IfStops begun.0 (IsReady args.now begun.1)) }
-    ensures room { IfOk result (λ begun. IfStops begun.0 (HasRoom parts.old parts.new)) }
     ensures does { DoesAt S.NodeStore (λ a n. args_started (context a (suc n) (position_of position.now)) (map arg_tree (drop from args.now)))
         (begun_of args.now) parts.old result parts.new }
 {
@@ -341,9 +327,8 @@ fn resuming<S: NodeStore>(
     scratch: &mut Scratch,
 ) -> Result<Completion, Code>
     requires { slice_get (source_args source) (argument - 1) ≡ Some paused.value.arg.now }
-    ensures falls { IfOk result (λ _. 6 * parts.new.eval.steps + size scratch.new.frames.items + 1
-        ≤ 6 * parts.old.eval.steps + size scratch.old.frames.items + room_for paused.entry.value.pause) }
-    ensures does { RunsWithin S.NodeStore
+    ensures falls { FallsByTwo parts.old scratch.old result parts.new scratch.new }
+    ensures does { RunsFurther S.NodeStore
         (λ a n. entered (context a n (position_of (source_position source.entry))) (entrance_of (Entrance.Paused paused.entry)))
         (stack scratch.old.frames.items) parts.old result (stack scratch.new.frames.items) parts.new }
 {
@@ -362,8 +347,9 @@ pub(crate) fn enter_argument<S: NodeStore>(
     scratch: &mut Scratch,
 ) -> Result<Completion, Code>
     requires { IsReady (source_args source) argument entrance }
-    ensures falls { IfOk result (λ _. 6 * parts.new.eval.steps + size scratch.new.frames.items ≤ 6 * parts.old.eval.steps + size scratch.old.frames.items + room entrance.entry) }
-    ensures does { RunsWithin S.NodeStore (λ a n. entered_then (context a n (position_of (source_position source.entry))) (entrance_of entrance.entry) (map arg_tree (drop argument (source_args source.entry)))) (stack scratch.old.frames.items) parts.old result (stack scratch.new.frames.items) parts.new }
+    ensures falls { FallsBy (3 * ahead entrance.entry) parts.old scratch.old result parts.new scratch.new }
+    ensures does { RunsIf (Enters entrance.entry) S.NodeStore (λ a n. entered_then (context a n (position_of (source_position source.entry))) (entrance_of entrance.entry) (map arg_tree (drop argument (source_args source.entry))))
+        (stack scratch.old.frames.items) parts.old result (stack scratch.new.frames.items) parts.new }
 {
     source.leave(argument, scratch)?;
     let position = source.position();
@@ -386,7 +372,8 @@ pub(crate) fn arguments<S: NodeStore>(
     scratch: &mut Scratch,
 ) -> Result<Completion, Code>
     ensures falls { Falls parts.old scratch.old result parts.new scratch.new }
-    ensures does { RunsWithin S.NodeStore (λ a n. meaning.arguments (context a n (position_of (source_position source.entry))) (map arg_tree (drop from (source_args source.entry)))) (stack scratch.old.frames.items) parts.old result (stack scratch.new.frames.items) parts.new }
+    ensures does { RunsWithin S.NodeStore (λ a n. meaning.arguments (context a n (position_of (source_position source.entry))) (map arg_tree (drop from (source_args source.entry))))
+        (stack scratch.old.frames.items) parts.old result (stack scratch.new.frames.items) parts.new }
 {
     let may_call = source.since() > 0;
     let (begun, argument) = arguments_begun(

@@ -5,16 +5,16 @@ ghost use Rattle.mgrammar.specs.CallsIn.{has_call_optional};
 ghost use Rattle.mgrammar.specs.ProgramsIn.{in_steps_optional};
 ghost use Rattle.mmeaning.specs.LineMeaning as meaning;
 ghost use Rattle.mmeaning.specs.LineMeaning.{context};
-ghost use Rattle.mexec.specs.Falls.{size, Falls};
-ghost use Rattle.mexec.specs.Frames.{Runs, RunsWithin, args_before, command_in, rest_tree, resting, spaced_before, stack, position_of};
-ghost use Rattle.mexec.specs.Fronts.{StopsBefore, StopsIn, resumed, stop_left, stop_of, stop_room};
+ghost use Rattle.mexec.specs.Falls.{size, Falls, FallsBy};
+ghost use Rattle.mexec.specs.Frames.{Runs, RunsIf, RunsWithin, args_before, command_in, rest_tree, resting, spaced_before, stack, position_of};
+ghost use Rattle.mexec.specs.Fronts.{StopsBefore, StopsIn, resumed, stop_left, stop_of, stop_ahead, StopFits};
 
-use crate::arguments::enter_argument;
+use crate::arguments::{enter_argument, one_spent};
 use crate::completion::{Completion, Progress};
 use crate::entering::doing_block;
 use crate::frames::{Continuation, ForLoop, Frame};
 use crate::front::{Stop, effect, front};
-use crate::programs::carried;
+use crate::programs::{Pause, first_begun, resume};
 use crate::scratch::Scratch;
 use crate::source::{Place, Source};
 use crate::turns::{begin_turn, next_parameter};
@@ -33,7 +33,8 @@ fn forever<S: NodeStore>(
 ) -> Result<Completion, Code>
     requires { args_before behind.now.line.value behind.now.at ≡ [] }
     ensures falls { Falls parts.old scratch.old result parts.new scratch.new }
-    ensures does { Runs S.NodeStore (λ a n. meaning.turns_forever (context a n (position_of behind.now.position.value)) (rest_tree behind.now)) (stack scratch.old.frames.items) parts.old result (stack scratch.new.frames.items) parts.new }
+    ensures does { RunsWithin S.NodeStore (λ a n. meaning.turns_forever (context a n (position_of behind.now.position.value)) (rest_tree behind.now))
+        (stack scratch.old.frames.items) parts.old result (stack scratch.new.frames.items) parts.new }
 {
     let turns = ForLoop {
         body: behind.copy()?,
@@ -67,11 +68,20 @@ fn conditioned<S: NodeStore>(
     requires calls { has_call_optional (command_in (spaced_before behind.now.line.value behind.now.at)).condition ≡ true }
     requires stepped { in_steps_optional (command_in (spaced_before behind.now.line.value behind.now.at)).condition ≡ true }
     ensures falls { IfOk result (λ _. 6 * parts.new.eval.steps + size scratch.new.frames.items ≤ 6 * parts.old.eval.steps + size scratch.old.frames.items + 3) }
-    ensures does { RunsWithin S.NodeStore (λ a n. meaning.conditional (context a n (position_of behind.now.position.value)) (command_in (spaced_before behind.now.line.value behind.now.at)) (rest_tree behind.now)) (stack scratch.old.frames.items) parts.old result (stack scratch.new.frames.items) parts.new }
+    ensures does { RunsWithin S.NodeStore (λ a n. meaning.conditional (context a n (position_of behind.now.position.value)) (command_in (spaced_before behind.now.line.value behind.now.at)) (rest_tree behind.now))
+        (stack scratch.old.frames.items) parts.old result (stack scratch.new.frames.items) parts.new }
 {
     scratch.frames.push(Frame::Condition(behind.copy()?))?;
     let place = Place::Condition(behind);
-    carried(alloc, parts, place, 0, Vec::new(alloc), scratch)
+    let before = parts.eval.steps;
+    let pause = first_begun(alloc, parts, place)?;
+    match pause {
+        Pause::Over(completion) => Ok(completion),
+        other => {
+            one_spent(parts.eval.steps, before)?;
+            resume(alloc, parts, place, other, scratch)
+        }
+    }
 }
 
 // Goes on where a command stops. What comes after it is on the frames.
@@ -85,8 +95,9 @@ fn stopped_at<S: NodeStore>(
 ) -> Result<Completion, Code>
     requires { StopsBefore (spaced_before behind.now.line.value behind.now.at) stop }
     ensures falls { IfOk result (λ _. 6 * parts.new.eval.steps + size scratch.new.frames.items ≤ 6 * parts.old.eval.steps + size scratch.old.frames.items + 3) }
-    ensures within { StopsIn (args_before behind.now.line.value behind.now.at) stop.entry → IfOk result (λ _. 6 * parts.new.eval.steps + size scratch.new.frames.items ≤ 6 * parts.old.eval.steps + size scratch.old.frames.items + stop_room stop.entry) }
-    ensures does { RunsWithin S.NodeStore (λ a n. stop_left (context a n (position_of behind.now.position.value)) (rest_tree behind.now) (stop_of (args_before behind.now.line.value behind.now.at) stop.entry)) (stack scratch.old.frames.items) parts.old result (stack scratch.new.frames.items) parts.new }
+    ensures within { StopsIn (args_before behind.now.line.value behind.now.at) stop.entry → FallsBy (3 * stop_ahead stop.entry) parts.old scratch.old result parts.new scratch.new }
+    ensures does { RunsIf (StopFits stop.entry) S.NodeStore (λ a n. stop_left (context a n (position_of behind.now.position.value)) (rest_tree behind.now) (stop_of (args_before behind.now.line.value behind.now.at) stop.entry))
+        (stack scratch.old.frames.items) parts.old result (stack scratch.new.frames.items) parts.new }
 {
     match stop {
         Stop::Argument(entrance, argument) => {
@@ -94,12 +105,7 @@ fn stopped_at<S: NodeStore>(
             enter_argument(alloc, parts, entrance, source, argument, scratch)
         }
         Stop::Loop(index, parameters) => {
-            let turns = ForLoop {
-                body: behind.copy()?,
-                parameter: 0,
-                course: Course::LastTurn,
-            };
-            next_parameter(alloc, parts, index, parameters, turns, scratch)
+            next_parameter(alloc, parts, index, parameters, behind, 0, scratch)
         }
         Stop::Turns => forever(alloc, parts, behind, scratch),
         Stop::Block => doing_block(alloc, parts, &behind.position, scratch),
@@ -117,7 +123,8 @@ pub(crate) fn go_on<S: NodeStore>(
 ) -> Result<Completion, Code>
     requires { StopsBefore (spaced_before behind.now.line.value behind.now.at) stop }
     ensures falls { IfOk result (λ _. 6 * parts.new.eval.steps + size scratch.new.frames.items ≤ 6 * parts.old.eval.steps + size scratch.old.frames.items + 4) }
-    ensures does { RunsWithin S.NodeStore (λ a n. resumed (context a n (position_of behind.now.position.value)) (stop_of (args_before behind.now.line.value behind.now.at) stop.entry) (rest_tree behind.now)) (stack scratch.old.frames.items) parts.old result (stack scratch.new.frames.items) parts.new }
+    ensures does { RunsIf (StopFits stop.entry) S.NodeStore (λ a n. resumed (context a n (position_of behind.now.position.value)) (stop_of (args_before behind.now.line.value behind.now.at) stop.entry) (rest_tree behind.now))
+        (stack scratch.old.frames.items) parts.old result (stack scratch.new.frames.items) parts.new }
 {
     leave(behind, scratch)?;
     stopped_at(alloc, parts, stop, behind, scratch)
@@ -133,7 +140,8 @@ fn effected<S: NodeStore>(
 ) -> Result<Completion, Code>
     requires { option_map (λ s. s.command) (spaced_before behind.now.line.value behind.now.at) ≡ Some command.now }
     ensures falls { Falls parts.old scratch.old result parts.new scratch.new }
-    ensures does { RunsWithin S.NodeStore (λ a n. meaning.effect (context a n (position_of behind.now.position.value)) (command_in (spaced_before behind.now.line.value behind.now.at)).keyword (command_in (spaced_before behind.now.line.value behind.now.at)).args (rest_tree behind.now)) (stack scratch.old.frames.items) parts.old result (stack scratch.new.frames.items) parts.new }
+    ensures does { RunsWithin S.NodeStore (λ a n. meaning.effect (context a n (position_of behind.now.position.value)) (command_in (spaced_before behind.now.line.value behind.now.at)).keyword (command_in (spaced_before behind.now.line.value behind.now.at)).args (rest_tree behind.now))
+        (stack scratch.old.frames.items) parts.old result (stack scratch.new.frames.items) parts.new }
 {
     let outcome = effect(
         alloc,
@@ -158,7 +166,8 @@ pub(crate) fn held<S: NodeStore>(
     scratch: &mut Scratch,
 ) -> Result<Completion, Code>
     ensures falls { Falls parts.old scratch.old result parts.new scratch.new }
-    ensures does { RunsWithin S.NodeStore (λ a n. meaning.effect (context a n (position_of behind.now.position.value)) (command_in (spaced_before behind.now.line.value behind.now.at)).keyword (command_in (spaced_before behind.now.line.value behind.now.at)).args (rest_tree behind.now)) (stack scratch.old.frames.items) parts.old result (stack scratch.new.frames.items) parts.new }
+    ensures does { RunsWithin S.NodeStore (λ a n. meaning.effect (context a n (position_of behind.now.position.value)) (command_in (spaced_before behind.now.line.value behind.now.at)).keyword (command_in (spaced_before behind.now.line.value behind.now.at)).args (rest_tree behind.now))
+        (stack scratch.old.frames.items) parts.old result (stack scratch.new.frames.items) parts.new }
 {
     match behind.line.commands.get(behind.at.saturating_sub(1)) {
         None => Ok(Completion::Quits),
@@ -175,7 +184,8 @@ pub(crate) fn next_command<S: NodeStore>(
     scratch: &mut Scratch,
 ) -> Result<Completion, Code>
     ensures falls { Falls parts.old scratch.old result parts.new scratch.new }
-    ensures does { Runs S.NodeStore (λ a n. meaning.commands (context a n (position_of rest.position.value)) (rest_tree rest)) (stack scratch.old.frames.items) parts.old result (stack scratch.new.frames.items) parts.new }
+    ensures does { Runs S.NodeStore (λ a n. meaning.commands (context a n (position_of rest.position.value)) (rest_tree rest))
+        (stack scratch.old.frames.items) parts.old result (stack scratch.new.frames.items) parts.new }
 {
     let (outcome, at) = front(alloc, parts, &rest.position, &rest.line, rest.at)?;
     match outcome {

@@ -150,7 +150,8 @@ pub(crate) fn entering<S: NodeStore>(
     scratch: &mut Scratch,
 ) -> Result<Completion, Code>
     ensures falls { FallsByEntry parts.old scratch.old result parts.new scratch.new }
-    ensures does { Runs S.NodeStore (λ a n. meaning.entering (context a n (position_of position.now)) (entry_tree opening.entry.entry.now) (listed opening.entry.is_listed) (map binding_of opening.entry.bindings.items) (closing_of opening.entry.closing)) (stack scratch.old.frames.items) parts.old result (stack scratch.new.frames.items) parts.new }
+    ensures does { Runs S.NodeStore (λ a n. meaning.entering (context a n (position_of position.now)) (entry_tree opening.entry.entry.now) (listed opening.entry.is_listed) (map binding_of opening.entry.bindings.items) (closing_of opening.entry.closing))
+        (stack scratch.old.frames.items) parts.old result (stack scratch.new.frames.items) parts.new }
 {
     let Opening {
         entry,
@@ -183,7 +184,8 @@ pub(crate) fn doing<S: NodeStore>(
 ) -> Result<Completion, Code>
     requires { has_call_actuals (called_tree called.now).1 ≡ false }
     ensures falls { FallsFurther parts.old scratch.old result parts.new scratch.new }
-    ensures does { Runs S.NodeStore (λ a n. meaning.doing (context a n (position_of position.now)) (called_tree called.now).0 (called_tree called.now).1) (stack scratch.old.frames.items) parts.old result (stack scratch.new.frames.items) parts.new }
+    ensures does { Runs S.NodeStore (λ a n. meaning.doing (context a n (position_of position.now)) (called_tree called.now).0 (called_tree called.now).1)
+        (stack scratch.old.frames.items) parts.old result (stack scratch.new.frames.items) parts.new }
 {
     parts.eval.depth = position.depth;
     let bindings = parts.handed_over(alloc, &called.actuals)?;
@@ -204,7 +206,8 @@ pub(crate) fn doing_block<S: NodeStore>(
     scratch: &mut Scratch,
 ) -> Result<Completion, Code>
     ensures falls { Falls parts.old scratch.old result parts.new scratch.new }
-    ensures does { Runs S.NodeStore (λ a n. meaning.doing_block (context a n (position_of position.now))) (stack scratch.old.frames.items) parts.old result (stack scratch.new.frames.items) parts.new }
+    ensures does { Runs S.NodeStore (λ a n. meaning.doing_block (context a n (position_of position.now)))
+        (stack scratch.old.frames.items) parts.old result (stack scratch.new.frames.items) parts.new }
 {
     let depth = one_deeper(parts, position.depth, false)?;
     let test = parts.eval.test();
@@ -251,7 +254,8 @@ fn enter_text<S: NodeStore>(
 ) -> Result<Completion, Code>
     requires { depth_of depth ≡ level_deeper (depth_of position.now.depth) }
     ensures falls { IfOk result (λ _. 6 * parts.new.eval.steps + size scratch.new.frames.items ≤ 6 * parts.old.eval.steps + size scratch.old.frames.items + 2) }
-    ensures does { Runs S.NodeStore (λ a n. text_entered (context a (suc n) (position_of position.now)) text.now) (stack scratch.old.frames.items) parts.old result (stack scratch.new.frames.items) parts.new }
+    ensures does { Runs S.NodeStore (λ a n. text_entered (context a (suc n) (position_of position.now)) text.now)
+        (stack scratch.old.frames.items) parts.old result (stack scratch.new.frames.items) parts.new }
 {
     let language = parts.eval.language();
     let line = read_line(alloc, &mut scratch.trees, language, text.as_bytes())?;
@@ -270,7 +274,8 @@ pub(crate) fn executing_value<S: NodeStore>(
     scratch: &mut Scratch,
 ) -> Result<Completion, Code>
     ensures falls { IfOk result (λ _. 6 * parts.new.eval.steps + size scratch.new.frames.items ≤ 6 * parts.old.eval.steps + size scratch.old.frames.items + 2) }
-    ensures does { Runs S.NodeStore (λ a n. meaning.text_executed (context a (suc n) (position_of position.now)) value) (stack scratch.old.frames.items) parts.old result (stack scratch.new.frames.items) parts.new }
+    ensures does { Runs S.NodeStore (λ a n. meaning.text_executed (context a (suc n) (position_of position.now)) value)
+        (stack scratch.old.frames.items) parts.old result (stack scratch.new.frames.items) parts.new }
 {
     let depth = one_deeper(parts, position.depth, false)?;
     let text = value.into_text(alloc)?;
@@ -288,7 +293,8 @@ pub(crate) fn executing<S: NodeStore>(
 ) -> Result<Completion, Code>
     requires { has_call (expr_tree e.now) ≡ false }
     ensures falls { FallsFurther parts.old scratch.old result parts.new scratch.new }
-    ensures does { Runs S.NodeStore (λ a n. meaning.executing (context a n (position_of position.now)) (expr_tree e.now)) (stack scratch.old.frames.items) parts.old result (stack scratch.new.frames.items) parts.new }
+    ensures does { Runs S.NodeStore (λ a n. meaning.executing (context a n (position_of position.now)) (expr_tree e.now))
+        (stack scratch.old.frames.items) parts.old result (stack scratch.new.frames.items) parts.new }
 {
     parts.eval.depth = position.depth;
     let text = parts.eval.eval(alloc, e)?;

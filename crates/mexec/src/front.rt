@@ -1,6 +1,6 @@
 // SPDX-License-Identifier: Apache-2.0
 // The commands of a line, one after another, as far as they need no frame.
-ghost use Rattle.std.specs.Prelude.{◌≡◌, ◌<◌, suc, [], false, true, map, IfOk};
+ghost use Rattle.std.specs.Prelude.{◌≡◌, ◌≤◌, ◌<◌, ◌+◌, suc, [], false, true, map, IfOk};
 ghost use Rattle.std.specs.List.{list_all, list_any};
 ghost use Rattle.mgrammar.specs.CallsIn.{has_call_arg, has_call_optional as the_has_call_optional};
 ghost use Rattle.mgrammar.specs.ProgramsIn.{in_steps_arg};
@@ -11,7 +11,7 @@ ghost use Rattle.mexec.specs.Loops.{spaced_before};
 ghost use Rattle.mexec.specs.Uncalled.{IsPlayed, has_call_command, in_steps_command};
 ghost use Rattle.mexec.specs.Fronts as fronts;
 ghost use Rattle.mexec.specs.Progress.{IfStops};
-ghost use Rattle.mexec.specs.Fronts.{StopHasRoom, StopsAt, StopsBefore, StopsIn, command_started, effect_started, front_of, outcome_of, stops_at, word_started};
+ghost use Rattle.mexec.specs.Fronts.{StopsAt, StopsBefore, StopsIn, command_started, effect_started, front_of, outcome_of, stop_ahead, stops_at, word_started};
 
 use crate::arguments::{Entrance, arguments_begun};
 use crate::completion::{Completion, Progress, over, went_on, where_true};
@@ -58,6 +58,7 @@ fn bare<'t, S: NodeStore>(
     keyword: Keyword,
 ) -> Result<Progress<Stop<'t>>, Code>
     ensures turns { IfOk result (λ outcome. IfStops outcome (StopsIn [])) }
+    ensures ahead { IfOk result (λ outcome. IfStops outcome (λ st. stop_ahead st ≡ 0)) }
     ensures does { (p : meaning.Position) → DoesAt S.NodeStore (λ a n. word_started (context a n p) (keyword_tree keyword)) (outcome_of []) parts.old result parts.new }
 {
     match keyword {
@@ -98,8 +99,8 @@ pub(crate) fn effect<'t, S: NodeStore>(
 ) -> Result<Progress<Stop<'t>>, Code>
     requires plain { may_call ≡ false → list_any has_call_arg (map arg_tree args.now) ≡ false }
     requires stepped { list_all in_steps_arg (map arg_tree args.now) ≡ true }
+    ensures ahead { IfOk result (λ outcome. IfStops outcome (λ st. parts.new.eval.steps + stop_ahead st ≤ parts.old.eval.steps)) }
     ensures stops { IfOk result (λ outcome. IfStops outcome (StopsIn args.now)) }
-    ensures room { IfOk result (λ outcome. IfStops outcome (StopHasRoom parts.old parts.new)) }
     ensures does { DoesAt S.NodeStore (λ a n. effect_started (context a (suc n) (position_of position.now)) (keyword_tree keyword) (map arg_tree args.now)) (outcome_of args.now) parts.old result parts.new }
 {
     match args.first() {
@@ -137,6 +138,7 @@ fn command<'t, S: NodeStore>(
 ) -> Result<Progress<Stop<'t>>, Code>
     requires plain { may_call ≡ false → has_call_command (command_tree command.now) ≡ false }
     requires stepped { in_steps_command (command_tree command.now) ≡ true }
+    ensures ahead { IfOk result (λ outcome. IfStops outcome (λ st. parts.new.eval.steps + stop_ahead st ≤ parts.old.eval.steps)) }
     ensures stops { IfOk result (λ outcome. IfStops outcome (StopsAt command.now)) }
     ensures does { DoesAt S.NodeStore (λ a n. command_started (context a (suc n) (position_of position.now)) (command_tree command.now)) (outcome_of command.now.args.items) parts.old result parts.new }
 {
@@ -172,7 +174,7 @@ fn commands_in_turn<'t, S: NodeStore>(
 ) -> Result<(Progress<Stop<'t>>, usize), Code>
     requires played { IsPlayed line.now }
     requires plain { may_call ≡ false → line.now.since ≡ 0 }
-    ensures spent { IfOk result (λ x. IfStops x.0 (λ _. parts.new.eval.steps < parts.old.eval.steps)) }
+    ensures spent { IfOk result (λ x. IfStops x.0 (λ st. parts.new.eval.steps + stop_ahead st < parts.old.eval.steps)) }
     ensures stops { IfOk result (λ x. IfStops x.0 (StopsBefore (spaced_before line.now x.1))) }
     ensures does { DoesAt S.NodeStore (λ a n. fronts.front (context a n (position_of position.now)) (commands_from line.now from))
         (front_of line.now) parts.old result parts.new }
@@ -201,7 +203,7 @@ fn commands_calling<'t, S: NodeStore>(
     from: usize,
 ) -> Result<(Progress<Stop<'t>>, usize), Code>
     requires { IsPlayed line.now }
-    ensures spent { IfOk result (λ x. IfStops x.0 (λ _. parts.new.eval.steps < parts.old.eval.steps)) }
+    ensures spent { IfOk result (λ x. IfStops x.0 (λ st. parts.new.eval.steps + stop_ahead st < parts.old.eval.steps)) }
     ensures stops { IfOk result (λ x. IfStops x.0 (StopsBefore (spaced_before line.now x.1))) }
     ensures does { DoesAt S.NodeStore (λ a n. fronts.front (context a n (position_of position.now)) (commands_from line.now from))
         (front_of line.now) parts.old result parts.new }
@@ -218,7 +220,7 @@ pub(crate) fn front<'t, S: NodeStore>(
     from: usize,
 ) -> Result<(Progress<Stop<'t>>, usize), Code>
     requires { IsPlayed line.now }
-    ensures spent { IfOk result (λ x. IfStops x.0 (λ _. parts.new.eval.steps < parts.old.eval.steps)) }
+    ensures spent { IfOk result (λ x. IfStops x.0 (λ st. parts.new.eval.steps + stop_ahead st < parts.old.eval.steps)) }
     ensures stops { IfOk result (λ x. IfStops x.0 (StopsBefore (spaced_before line.now x.1))) }
     ensures does { DoesAt S.NodeStore (λ a n. fronts.front (context a n (position_of position.now)) (commands_from line.now from))
         (front_of line.now) parts.old result parts.new }

@@ -6,9 +6,9 @@ ghost use Rattle.mgrammar.specs.CallsIn.{has_call_primary};
 ghost use Rattle.mgrammar.specs.ProgramsIn.{in_steps_arg};
 ghost use Rattle.mexec.specs.Words.{Lists, Yields, an_indirection_free, arg_tree, context, depth_of, fault_of, form_of, indirected, keyword_tree, primary_tree};
 ghost use Rattle.mmeaning.specs.LineMeaning as meaning;
-ghost use Rattle.mexec.specs.Falls.{size, FallsFurther};
+ghost use Rattle.mexec.specs.Falls.{size, FallsByTwo, FallsFurther};
 ghost use Rattle.mexec.specs.Uncalled.{ArePlayed};
-ghost use Rattle.mexec.specs.Frames.{RunsWithin, position_of, stack};
+ghost use Rattle.mexec.specs.Frames.{RunsFurther, RunsWithin, position_of, stack};
 ghost use Rattle.mexec.specs.Entering.{so_deep};
 
 use crate::completion::Completion;
@@ -20,6 +20,7 @@ use meval::Depth;
 use mnodes::NodeStore;
 use moperator::Code;
 use mtree::{Arg, Keyword, Primary};
+use mvalue::Value;
 use std::alloc::{AllocError, Global};
 use std::rc::Rc;
 
@@ -81,12 +82,29 @@ pub(crate) fn giving<S: NodeStore>(
 ) -> Result<Completion, Code>
     requires { has_call_primary (primary_tree operand.now) ≡ false }
     ensures falls { FallsFurther parts.old scratch.old result parts.new scratch.new }
-    ensures does { RunsWithin S.NodeStore (λ a n. meaning.given (context a n (position_of position.now)) (form_of (keyword_tree keyword)) (primary_tree operand.now)) (stack scratch.old.frames.items) parts.old result (stack scratch.new.frames.items) parts.new }
+    ensures does { RunsWithin S.NodeStore (λ a n. meaning.given (context a n (position_of position.now)) (form_of (keyword_tree keyword)) (primary_tree operand.now))
+        (stack scratch.old.frames.items) parts.old result (stack scratch.new.frames.items) parts.new }
 {
     parts.eval.depth = position.depth;
     let text = parts.eval.primary(alloc, operand)?;
+    giving_value(alloc, parts, position, keyword, text, scratch)
+}
+
+// The same, once the operand is evaluated.
+pub(crate) fn giving_value<S: NodeStore>(
+    alloc: Global,
+    parts: &mut Parts<S>,
+    position: &Position,
+    keyword: Keyword,
+    value: Value,
+    scratch: &mut Scratch,
+) -> Result<Completion, Code>
+    ensures falls { FallsByTwo parts.old scratch.old result parts.new scratch.new }
+    ensures does { RunsFurther S.NodeStore (λ a n. meaning.given_by (context a n (position_of position.now)) (form_of (keyword_tree keyword)) value)
+        (stack scratch.old.frames.items) parts.old result (stack scratch.new.frames.items) parts.new }
+{
     let depth = one_indirection_deeper(position.depth)?;
-    let text = text.into_text(alloc)?;
+    let text = value.into_text(alloc)?;
     let language = parts.eval.language();
     let (args, since) = read_arguments(alloc, language, keyword, text.as_bytes())?;
     leave_given(alloc, depth, position, args, since, scratch)?;

@@ -196,7 +196,8 @@ fn read_and_enter<S: NodeStore>(
     requires language { language ≡ (standing_of parts.old.eval).given.language }
     requires known { language ≤ 1 }
     ensures falls { IfOk result (λ _. 6 * parts.new.eval.steps + size scratch.new.frames.items ≤ 6 * parts.old.eval.steps + size scratch.old.frames.items + 2) }
-    ensures does { Runs S.NodeStore (λ a n. line_then (context a (suc n) (position_of position)) (closing_of closing) at (get_or position.level.copy.value.items at [])) (stack scratch.old.frames.items) parts.old result (stack scratch.new.frames.items) parts.new }
+    ensures does { Runs S.NodeStore (λ a n. line_then (context a (suc n) (position_of position)) (closing_of closing) at (get_or position.level.copy.value.items at []))
+        (stack scratch.old.frames.items) parts.old result (stack scratch.new.frames.items) parts.new }
 {
     let text = position.level.copy[at].as_bytes();
     let line = read_routine_line(alloc, &mut scratch.trees, language, text)?;
@@ -216,7 +217,8 @@ pub(crate) fn enter_line<S: NodeStore>(
 ) -> Result<Completion, Code>
     requires { at < length position.level.copy.value.items }
     ensures falls { FallsByEntry parts.old scratch.old result parts.new scratch.new }
-    ensures does { Runs S.NodeStore (λ a n. entering (context a n (position_of position)) (closing_of closing) at (get_or position.level.copy.value.items at [])) (stack scratch.old.frames.items) parts.old result (stack scratch.new.frames.items) parts.new }
+    ensures does { Runs S.NodeStore (λ a n. entering (context a n (position_of position)) (closing_of closing) at (get_or position.level.copy.value.items at []))
+        (stack scratch.old.frames.items) parts.old result (stack scratch.new.frames.items) parts.new }
 {
     parts.eval.charge()?;
     let language = parts.eval.language();
@@ -234,7 +236,8 @@ fn reach_line<S: NodeStore>(
 ) -> Result<Completion, Code>
     requires { at < length position.now.level.copy.value.items }
     ensures falls { FallsByEntry parts.old scratch.old result parts.new scratch.new }
-    ensures does { Runs S.NodeStore (λ a n. reaching (context a n (position_of position.now)) (closing_of closing) at (get_or position.now.level.copy.value.items at [])) (stack scratch.old.frames.items) parts.old result (stack scratch.new.frames.items) parts.new }
+    ensures does { Runs S.NodeStore (λ a n. reaching (context a n (position_of position.now)) (closing_of closing) at (get_or position.now.level.copy.value.items at []))
+        (stack scratch.old.frames.items) parts.old result (stack scratch.new.frames.items) parts.new }
 {
     parts.eval.charge()?;
     let language = parts.eval.language();
@@ -254,7 +257,8 @@ pub(crate) fn lines_next<S: NodeStore>(
     scratch: &mut Scratch,
 ) -> Result<Completion, Code>
     ensures falls { Falls parts.old scratch.old result parts.new scratch.new }
-    ensures does { Runs S.NodeStore (λ a n. frame a n (Levels (position_of position.now) (closing_of closing)) Go_on) (stack scratch.old.frames.items) parts.old result (stack scratch.new.frames.items) parts.new }
+    ensures does { Runs S.NodeStore (λ a n. frame a n (Levels (position_of position.now) (closing_of closing)) Go_on)
+        (stack scratch.old.frames.items) parts.old result (stack scratch.new.frames.items) parts.new }
 {
     match next_line(parts, &position.level)? {
         None => closed(parts, closing, Completion::GoOn),
@@ -272,7 +276,8 @@ fn go_to<S: NodeStore>(
     scratch: &mut Scratch,
 ) -> Result<Completion, Code>
     ensures falls { Falls parts.old scratch.old result parts.new scratch.new }
-    ensures does { Runs S.NodeStore (λ a n. frame a n (Levels (at_target (position_of position.now) (target_view target)) (closing_of closing)) Go_on) (stack scratch.old.frames.items) parts.old result (stack scratch.new.frames.items) parts.new }
+    ensures does { Runs S.NodeStore (λ a n. frame a n (Levels (at_target (position_of position.now) (target_view target)) (closing_of closing)) Go_on)
+        (stack scratch.old.frames.items) parts.old result (stack scratch.new.frames.items) parts.new }
 {
     let there = Position {
         depth: position.depth,
@@ -295,7 +300,8 @@ pub(crate) fn after_level<S: NodeStore>(
     scratch: &mut Scratch,
 ) -> Result<Completion, Code>
     ensures falls { Falls parts.old scratch.old result parts.new scratch.new }
-    ensures does { Runs S.NodeStore (λ a n. frame a n (Levels (position_of position.now) (closing_of closing)) (completion_of completion)) (stack scratch.old.frames.items) parts.old result (stack scratch.new.frames.items) parts.new }
+    ensures does { Runs S.NodeStore (λ a n. frame a n (Levels (position_of position.now) (closing_of closing)) (completion_of completion))
+        (stack scratch.old.frames.items) parts.old result (stack scratch.new.frames.items) parts.new }
 {
     match completion {
         Completion::GoOn => lines_next(alloc, parts, position, closing, scratch),

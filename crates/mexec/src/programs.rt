@@ -1,42 +1,48 @@
 // SPDX-License-Identifier: Apache-2.0
 // Programs: an argument, or a condition, in which functions are called, a step at a time. Where a function's level opens, what is left of
 // the program stays on the frames.
-ghost use Rattle.std.specs.Prelude.{◌≡◌, ◌≤◌, ◌+◌, ◌*◌, suc, [], Some, IfErr, IfOk, is_some, length, map, drop, true};
+ghost use Rattle.std.specs.Prelude.{◌≡◌, ◌≤◌, ◌+◌, suc, List, [], Some, IfErr, IfOk, is_some, length, map, option_map, drop, true, false};
+ghost use Rattle.mcommand.specs.ForParameters.{course_view};
 ghost use Rattle.mmeaning.specs.Frames.{frame, Programs, resumed};
 ghost use Rattle.mmeaning.specs.LineMeaning as meaning;
 ghost use Rattle.mmeaning.specs.LineMeaning.{context};
 ghost use Rattle.mmeaning.specs.Levels.{leaves};
 ghost use Rattle.mmeaning.specs.Programs as programs;
-ghost use Rattle.mgrammar.specs.Grammar.{choices_of};
+ghost use Rattle.mgrammar.specs.Grammar.{choices_of, CommandTree, ParameterTree};
 ghost use Rattle.mmeaning.specs.Programs.{listed, of_choices, of_value};
 ghost use Rattle.mlocal.specs.Bindings.{binding_of};
 ghost use Rattle.mmeaning.specs.Yields.{Yields};
 ghost use Rattle.moperator.specs.Codes.{fault_of};
 ghost use Rattle.moperator.specs.declared.code.Code.TheVariants.{Zmem};
-ghost use Rattle.mtree.specs.Tree.{choice_tree, entry_tree, expr_tree};
+ghost use Rattle.mtree.specs.Tree.{choice_tree, entry_tree, expr_tree, kind_tree};
 ghost use Rattle.mprogram.specs.Wholes.{WholeTree, steps_of, ending_of as the_ending_of};
 ghost use Rattle.mprogram.specs.Views.{ending_view, whole_view};
 ghost use Rattle.mcommand.specs.Does.{DoesAt};
 ghost use Rattle.mcommand.specs.Steps.{items_view};
-ghost use Rattle.mexec.specs.Falls.{size, FallsByTwo, FallsFurther};
-ghost use Rattle.mexec.specs.Frames.{RunsIf, RunsWithin, completion_of, holder_position, position_of, stack, view};
+ghost use Rattle.mexec.specs.Falls.{Falls, FallsByTwo, FallsFurther};
+ghost use Rattle.mexec.specs.Frames.{RunsFurther, RunsWithin, completion_of, holder_position, position_of, stack, view};
 ghost use Rattle.mexec.specs.Places.{place_position, whole_at};
-ghost use Rattle.mexec.specs.Programs.{call_of, calls_with, chosen_from, ends, ends_with, pause_of, pauses, room_for, IsNumber};
+ghost use Rattle.mexec.specs.Programs.{call_of, calls_with, chosen_from, ends, ends_with, pause_of, pauses, IsNumber};
 ghost use Rattle.mexec.specs.Wholes.{ending_within, steps_within, whole_of};
 
 use crate::arguments::leads_to;
 use crate::completion::{Completion, went_on, where_true};
 use crate::entering::{Opening, entering, executing_value};
 use crate::frames::{Closing, Position};
+use crate::indirection::giving_value;
 use crate::scratch::Scratch;
 use crate::source::Place;
 use crate::suspended::Suspended;
-use mcommand::{Item, Parts, take_handing, take_targets, take_value};
+use crate::turns::turned;
+use mcommand::{
+    Course, Item, Parts, take_found, take_handing, take_item, take_names, take_targets, take_value,
+};
 use mlocal::Binding;
 use mnodes::NodeStore;
+use mnum::Name;
 use moperator::{Code, truth_of};
 use mprogram::{Ending, Op, Whole, ending_of, op_at, steps_in_choices, steps_in_value};
-use mtree::{Choice, Entry, Expr};
+use mtree::{Choice, Entry, Expr, Keyword, LockKind};
 use mvalue::Value;
 use std::alloc::Global;
 
@@ -52,13 +58,16 @@ pub(crate) struct Call<'t> {
 }
 
 // How far a program comes by itself: to its end; to the call of a function; to the lines that a DO calls, whether a list of actuals is
-// written, and what they hand over; or to a text of XECUTE.
+// written, and what they hand over; to a text of XECUTE; to one that gives arguments of a command with this word; or to the turns of a
+// parameter of FOR, if there is one.
 #[derive(Drop)]
 pub(crate) enum Pause<'t> {
     Over(Completion),
     Calls(Call<'t>),
     Enters(&'t Entry, bool, Vec<Binding>),
     Executes(Value),
+    Lists(Keyword, Value),
+    Turns(Option<Course>),
 }
 
 // What gave its completion.
@@ -92,7 +101,8 @@ fn assigned<'t, S: NodeStore>(
     parts: &mut Parts<S>,
     items: Vec<Item>,
 ) -> Result<Pause<'t>, Code>
-    ensures { (x : meaning.Context) (w : WholeTree) → DoesAt S.NodeStore (λ a n. ends x programs.Assign (items_view items.items)) (pause_of w) parts.old result parts.new }
+    ensures { (x : meaning.Context) (w : WholeTree) → DoesAt S.NodeStore (λ a n. ends x programs.Assign (items_view items.items))
+        (pause_of w) parts.old result parts.new }
 {
     let mut items = items;
     let value = take_value(&mut items)?;
@@ -100,9 +110,88 @@ fn assigned<'t, S: NodeStore>(
     paused(went_on(parts.assign_all(alloc, &value, all)))
 }
 
+// KILL, in the end.
+fn killed<'t, S: NodeStore>(
+    alloc: Global,
+    parts: &mut Parts<S>,
+    items: Vec<Item>,
+) -> Result<Pause<'t>, Code>
+    ensures { (x : meaning.Context) (w : WholeTree) → DoesAt S.NodeStore (λ a n. ends x programs.Kill (items_view items.items))
+        (pause_of w) parts.old result parts.new }
+{
+    let mut items = items;
+    let pending = take_found(&mut items)?;
+    paused(went_on(parts.kill_found(alloc, pending)))
+}
+
+// LOCK with a timeout, in the end.
+fn locked_timed<'t, S: NodeStore>(
+    alloc: Global,
+    parts: &mut Parts<S>,
+    kind: LockKind,
+    items: Vec<Item>,
+) -> Result<Pause<'t>, Code>
+    ensures { (x : meaning.Context) (w : WholeTree) → DoesAt S.NodeStore (λ a n. ends x (programs.Lock (kind_tree kind) true) (items_view items.items))
+        (pause_of w) parts.old result parts.new }
+{
+    let mut items = items;
+    let timeout = take_value(&mut items)?;
+    let names = take_names(&mut items)?;
+    paused(went_on(parts.lock_done(alloc, kind, &names, &Some(timeout))))
+}
+
+// LOCK without one.
+fn locked_plainly<'t, S: NodeStore>(
+    alloc: Global,
+    parts: &mut Parts<S>,
+    kind: LockKind,
+    items: Vec<Item>,
+) -> Result<Pause<'t>, Code>
+    ensures { (x : meaning.Context) (w : WholeTree) → DoesAt S.NodeStore (λ a n. ends x (programs.Lock (kind_tree kind) false) (items_view items.items))
+        (pause_of w) parts.old result parts.new }
+{
+    let mut items = items;
+    let names = take_names(&mut items)?;
+    paused(went_on(parts.lock_done(alloc, kind, &names, &None)))
+}
+
+// LOCK, in the end: whether there is a timeout.
+fn locked<'t, S: NodeStore>(
+    alloc: Global,
+    parts: &mut Parts<S>,
+    kind: LockKind,
+    is_timed: bool,
+    items: Vec<Item>,
+) -> Result<Pause<'t>, Code>
+    ensures { (x : meaning.Context) (w : WholeTree) → DoesAt S.NodeStore (λ a n. ends x (programs.Lock (kind_tree kind) is_timed) (items_view items.items))
+        (pause_of w) parts.old result parts.new }
+{
+    if is_timed {
+        locked_timed(alloc, parts, kind, items)
+    } else {
+        locked_plainly(alloc, parts, kind, items)
+    }
+}
+
+// A parameter of FOR, in the end.
+fn looped<'t, S: NodeStore>(
+    parts: &mut Parts<S>,
+    index: &Name,
+    items: Vec<Item>,
+) -> Result<Pause<'t>, Code>
+    ensures { (x : meaning.Context) (rest : List ParameterTree) (body : List CommandTree) (w : WholeTree) → DoesAt S.NodeStore (λ a n. ends x (programs.Loop index.now rest body) (items_view items.items))
+        (pause_of w) parts.old result parts.new }
+{
+    let mut items = items;
+    let left = take_item(&mut items)?;
+    let course = parts.begin_course(index, left)?;
+    Ok(Pause::Turns(course))
+}
+
 // DO, in the end.
 fn entered<'t>(entry: &'t Entry, is_listed: bool, items: Vec<Item>) -> Result<Pause<'t>, Code>
-    ensures { (x : meaning.Context) (w : WholeTree) → Yields fault_of (ends x (programs.Enter (entry_tree entry.now) is_listed) (items_view items.items)) (pause_of w) result }
+    ensures { (x : meaning.Context) (w : WholeTree) → Yields fault_of (ends x (programs.Enter (entry_tree entry.now) is_listed) (items_view items.items))
+        (pause_of w) result }
 {
     let mut items = items;
     let (_, bindings) = take_handing(&mut items)?;
@@ -136,9 +225,8 @@ fn ended_with<'t, S: NodeStore>(
             Ok(Pause::Over(Completion::Returns(value)))
         }
         Ending::Run => Ok(Pause::Executes(value)),
-        Ending::Assign => Ok(Pause::Executes(value)),
-        Ending::Enter(_, _) => Ok(Pause::Executes(value)),
-        Ending::Go(_) => Ok(Pause::Executes(value)),
+        Ending::Indirect(keyword) => Ok(Pause::Lists(keyword, value)),
+        _ => Ok(Pause::Executes(value)),
     }
 }
 
@@ -150,12 +238,17 @@ fn ended<'t, S: NodeStore>(
     ending: Ending<'t>,
     items: Vec<Item>,
 ) -> Result<Pause<'t>, Code>
-    ensures { (w : WholeTree) → DoesAt S.NodeStore (λ a n. ends (context a n (position_of position.now)) (ending_view ending.entry) (items_view items.items)) (pause_of w) parts.old result parts.new }
+    ensures { (w : WholeTree) → DoesAt S.NodeStore (λ a n. ends (context a n (position_of position.now)) (ending_view ending.entry) (items_view items.items))
+        (pause_of w) parts.old result parts.new }
 {
     match ending {
         Ending::Assign => assigned(alloc, parts, items),
         Ending::Enter(entry, is_listed) => entered(entry, is_listed, items),
         Ending::Go(entry) => paused(leads_to(alloc, parts, position, entry)),
+        Ending::Kill => killed(alloc, parts, items),
+        Ending::Lock(kind, is_timed) => locked(alloc, parts, kind, is_timed, items),
+        Ending::Nothing => Ok(Pause::Over(Completion::GoOn)),
+        Ending::Loop(index, _, _) => looped(parts, index, items),
         _ => {
             let mut items = items;
             let value = take_value(&mut items)?;
@@ -227,7 +320,8 @@ pub(crate) fn begun<'t, S: NodeStore>(
     from: usize,
     items: Vec<Item>,
 ) -> Result<Pause<'t>, Code>
-    ensures { DoesAt S.NodeStore (λ a n. programs.begun (context a (suc n) (position_of position.now)) (drop from (steps_of (whole_view whole.entry))) (the_ending_of (whole_view whole.entry)) (items_view items.items)) (pause_of (whole_view whole.entry)) parts.old result parts.new }
+    ensures { DoesAt S.NodeStore (λ a n. programs.begun (context a (suc n) (position_of position.now)) (drop from (steps_of (whole_view whole.entry))) (the_ending_of (whole_view whole.entry)) (items_view items.items))
+        (pause_of (whole_view whole.entry)) parts.old result parts.new }
 {
     parts.eval.depth = position.depth;
     let mut stack = items;
@@ -251,7 +345,7 @@ pub(crate) fn begun<'t, S: NodeStore>(
 }
 
 // The function that a program calls, on top of what is then left of the program.
-fn calling<S: NodeStore>(
+pub(crate) fn calling<S: NodeStore>(
     alloc: Global,
     parts: &mut Parts<S>,
     place: Place,
@@ -260,7 +354,9 @@ fn calling<S: NodeStore>(
 ) -> Result<Completion, Code>
     requires { is_some (whole_at place) ≡ true }
     ensures falls { FallsFurther parts.old scratch.old result parts.new scratch.new }
-    ensures does { (w : WholeTree) → whole_at place.entry ≡ Some w → RunsWithin S.NodeStore (λ a n. resumed a n (position_of (place_position place.entry)) (the_ending_of w) (call_of w call.entry)) (stack scratch.old.frames.items) parts.old result (stack scratch.new.frames.items) parts.new }
+    ensures does { (w : WholeTree) → whole_at place.entry ≡ Some w
+        → RunsFurther S.NodeStore (λ a n. resumed a n (position_of (place_position place.entry)) (the_ending_of w) (call_of w call.entry))
+        (stack scratch.old.frames.items) parts.old result (stack scratch.new.frames.items) parts.new }
 {
     let Call {
         entry,
@@ -290,7 +386,8 @@ fn entering_lines<S: NodeStore>(
     scratch: &mut Scratch,
 ) -> Result<Completion, Code>
     ensures falls { FallsFurther parts.old scratch.old result parts.new scratch.new }
-    ensures does { RunsWithin S.NodeStore (λ a n. meaning.entering (context a n (position_of position.now)) (entry_tree entry.now) (listed is_listed) (map binding_of bindings.items) leaves) (stack scratch.old.frames.items) parts.old result (stack scratch.new.frames.items) parts.new }
+    ensures does { RunsWithin S.NodeStore (λ a n. meaning.entering (context a n (position_of position.now)) (entry_tree entry.now) (listed is_listed) (map binding_of bindings.items) leaves)
+        (stack scratch.old.frames.items) parts.old result (stack scratch.new.frames.items) parts.new }
 {
     let opening = Opening {
         entry,
@@ -301,7 +398,28 @@ fn entering_lines<S: NodeStore>(
     entering(alloc, parts, position, opening, scratch)
 }
 
-// What a program leads to where it opens a level. Kept out of line, since it is rare.
+// The turns of a parameter of FOR, at which a program stands.
+fn turning<S: NodeStore>(
+    alloc: Global,
+    parts: &mut Parts<S>,
+    place: Place,
+    course: Option<Course>,
+    scratch: &mut Scratch,
+) -> Result<Completion, Code>
+    ensures falls { Falls parts.old scratch.old result parts.new scratch.new }
+    ensures does { (w : WholeTree) → whole_at place.entry ≡ Some w
+        → RunsWithin S.NodeStore (λ a n. programs.turned (context a n (position_of (place_position place.entry))) (the_ending_of w) (option_map course_view course))
+        (stack scratch.old.frames.items) parts.old result (stack scratch.new.frames.items) parts.new }
+{
+    match place {
+        // neither has turns
+        Place::Argument(_, _) => Err(Code::Zmem),
+        Place::Condition(_) => Err(Code::Zmem),
+        Place::Parameter(body, at) => turned(alloc, parts, body, at, course, scratch),
+    }
+}
+
+// What a program leads to where it comes to a level, or to its end. A text takes two frames.
 #[inline(never)]
 pub(crate) fn resume<S: NodeStore>(
     alloc: Global,
@@ -311,8 +429,10 @@ pub(crate) fn resume<S: NodeStore>(
     scratch: &mut Scratch,
 ) -> Result<Completion, Code>
     requires { is_some (whole_at place) ≡ true }
-    ensures falls { IfOk result (λ _. 6 * parts.new.eval.steps + size scratch.new.frames.items + 1 ≤ 6 * parts.old.eval.steps + size scratch.old.frames.items + room_for pause.entry) }
-    ensures does { (w : WholeTree) → whole_at place.entry ≡ Some w → RunsWithin S.NodeStore (λ a n. resumed a n (position_of (place_position place.entry)) (the_ending_of w) (pause_of w pause.entry)) (stack scratch.old.frames.items) parts.old result (stack scratch.new.frames.items) parts.new }
+    ensures falls { FallsByTwo parts.old scratch.old result parts.new scratch.new }
+    ensures does { (w : WholeTree) → whole_at place.entry ≡ Some w
+        → RunsFurther S.NodeStore (λ a n. resumed a n (position_of (place_position place.entry)) (the_ending_of w) (pause_of w pause.entry))
+        (stack scratch.old.frames.items) parts.old result (stack scratch.new.frames.items) parts.new }
 {
     match pause {
         Pause::Over(completion) => Ok(completion),
@@ -329,11 +449,32 @@ pub(crate) fn resume<S: NodeStore>(
         Pause::Executes(value) => {
             executing_value(alloc, parts, place.position(), value, scratch)
         }
+        Pause::Lists(keyword, value) => {
+            giving_value(alloc, parts, place.position(), keyword, value, scratch)
+        }
+        Pause::Turns(course) => turning(alloc, parts, place, course, scratch),
     }
 }
 
+// A program from its first step on, as far as it comes by itself. Kept out of line, since it is rare.
+#[inline(never)]
+pub(crate) fn first_begun<'t, S: NodeStore>(
+    alloc: Global,
+    parts: &mut Parts<S>,
+    place: Place<'t>,
+) -> Result<Pause<'t>, Code>
+    ensures { (w : WholeTree) → whole_at place.entry ≡ Some w
+        → DoesAt S.NodeStore (λ a n. programs.begun (context a (suc n) (position_of (place_position place.entry))) (steps_of w) (the_ending_of w) [])
+        (pause_of w) parts.old result parts.new }
+{
+    let Some(whole) = place.whole() else {
+        return Err(Code::Zmem);
+    };
+    begun(alloc, parts, place.position(), whole, 0, Vec::new(alloc))
+}
+
 // A program from one of its steps on, with this stack.
-pub(crate) fn carried<S: NodeStore>(
+fn carried<S: NodeStore>(
     alloc: Global,
     parts: &mut Parts<S>,
     place: Place,
@@ -343,7 +484,8 @@ pub(crate) fn carried<S: NodeStore>(
 ) -> Result<Completion, Code>
     requires { is_some (whole_at place) ≡ true }
     ensures falls { FallsByTwo parts.old scratch.old result parts.new scratch.new }
-    ensures does { RunsWithin S.NodeStore (λ a n. programs.carried (context a n (position_of (place_position place.entry))) (drop from (steps_within (whole_at place.entry))) (ending_within (whole_at place.entry)) (items_view items.items)) (stack scratch.old.frames.items) parts.old result (stack scratch.new.frames.items) parts.new }
+    ensures does { RunsFurther S.NodeStore (λ a n. programs.carried (context a n (position_of (place_position place.entry))) (drop from (steps_within (whole_at place.entry))) (ending_within (whole_at place.entry)) (items_view items.items))
+        (stack scratch.old.frames.items) parts.old result (stack scratch.new.frames.items) parts.new }
 {
     let Some(whole) = place.whole() else {
         return Err(Code::Zsyntax);
@@ -362,7 +504,8 @@ pub(crate) fn after_call<S: NodeStore>(
     scratch: &mut Scratch,
 ) -> Result<Completion, Code>
     ensures falls { FallsByTwo parts.old scratch.old result parts.new scratch.new }
-    ensures does { RunsWithin S.NodeStore (λ a n. frame a n (Programs (position_of (holder_position suspended.value.holder)) (drop suspended.value.at (steps_within (whole_of suspended.value.holder))) (ending_within (whole_of suspended.value.holder)) (items_view suspended.value.items.items)) (completion_of completion)) (stack scratch.old.frames.items) parts.old result (stack scratch.new.frames.items) parts.new }
+    ensures does { RunsFurther S.NodeStore (λ a n. frame a n (Programs (position_of (holder_position suspended.value.holder)) (drop suspended.value.at (steps_within (whole_of suspended.value.holder))) (ending_within (whole_of suspended.value.holder)) (items_view suspended.value.items.items)) (completion_of completion))
+        (stack scratch.old.frames.items) parts.old result (stack scratch.new.frames.items) parts.new }
 {
     let Completion::Returns(value) = completion else {
         return Err(Code::M17);

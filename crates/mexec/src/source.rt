@@ -1,12 +1,12 @@
 // SPDX-License-Identifier: Apache-2.0
 // Where arguments come from: the line of their command, or a text that gave them.
-ghost use Rattle.std.specs.Prelude.{◌≡◌, ◌≤◌, ◌+◌, ◌∷◌, is_some, true, map, option_map, drop, length, IfOk, OnOk};
+ghost use Rattle.std.specs.Prelude.{◌≡◌, ◌≤◌, ◌+◌, ◌∷◌, is_some, true, map, option_map, drop, length, IfOk, IfSome, OnOk};
 ghost use Rattle.mmeaning.specs.Frames.{Lists, Programs};
-ghost use Rattle.mprogram.specs.Views.{whole_view};
+ghost use Rattle.mprogram.specs.Views.{body_tree, whole_view};
 ghost use Rattle.mcommand.specs.Steps.{items_view};
-ghost use Rattle.mexec.specs.Wholes.{argument_of, condition_of, whole_of, steps_within, ending_within};
+ghost use Rattle.mexec.specs.Wholes.{argument_of, condition_of, parameter_in, parameter_of, whole_of, steps_within, ending_within};
 ghost use Rattle.mexec.specs.Places.{whole_at, place_position};
-ghost use Rattle.mexec.specs.Loops.{spaced_before};
+ghost use Rattle.mexec.specs.Loops.{has_index, loop_before as the_loop_before, spaced_before};
 ghost use Rattle.mtree.specs.Tree.{arg_tree};
 ghost use Rattle.mexec.specs.Frames.{args_before as the_args_before, position_of, stack, source_position, source_args, source_since, holder_position, view};
 ghost use Rattle.mexec.specs.Arguments.{listing};
@@ -17,8 +17,9 @@ use crate::holder::Holder;
 use crate::scratch::Scratch;
 use crate::suspended::Suspended;
 use mcommand::Item;
+use mnum::Name;
 use mprogram::Whole;
-use mtree::{Arg, Line};
+use mtree::{Arg, Line, Parameter, Spaced};
 use std::alloc::{AllocError, Global};
 use std::rc::Rc;
 
@@ -96,11 +97,13 @@ impl<'t> Source<'t> {
     }
 }
 
-// Where a program stands: at one of some arguments, or at the condition of the command before the rest of a line.
+// Where a program stands: at one of some arguments, at the condition of the command before the rest of a line, or at one of the parameters of
+// the FOR before it.
 #[derive(Clone, Copy)]
 pub(crate) enum Place<'t> {
     Argument(Source<'t>, usize),
     Condition(&'t Continuation),
+    Parameter(&'t Continuation, usize),
 }
 
 // The condition of the command before a place of a line, if it has one.
@@ -113,6 +116,51 @@ fn condition_before(line: &Line, at: usize) -> Option<Whole<'_>>
             None => None,
             Some(condition) => Some(Whole::Condition(condition)),
         },
+    }
+}
+
+// The index and the parameters of the FOR before a place of a line, if it has an index.
+pub(crate) fn loop_before(line: &Line, at: usize) -> Option<(&Name, &[Parameter])>
+    ensures found { IfSome result (λ found. the_loop_before line.now at ≡ (found.0.now, found.1.now)) }
+    ensures indexed { is_some result ≡ has_index line.now at }
+{
+    match args_before(line, at).first() {
+        None => None,
+        Some(first) => match first {
+            Arg::Loop(index, parameters) => Some((index, parameters.as_slice())),
+            _ => None,
+        },
+    }
+}
+
+// One of some parameters of FOR, with what comes after it.
+fn parameter_in<'t>(
+    index: &'t Name,
+    parameters: &'t [Parameter],
+    at: usize,
+    body: &'t [Spaced],
+) -> Option<Whole<'t>>
+    ensures { option_map whole_view result ≡ parameter_in (index.now, parameters.now) (body_tree body.now) at }
+{
+    match parameters.get(at) {
+        None => None,
+        Some(parameter) => {
+            let rest = &parameters[at + 1..];
+            Some(Whole::Parameter(index, parameter, rest, body))
+        }
+    }
+}
+
+// One of the parameters of the FOR before a place of a line, if there is one.
+fn parameter_at(line: &Line, at: usize, parameter: usize) -> Option<Whole<'_>>
+    ensures { option_map whole_view result ≡ parameter_of line.now at parameter }
+{
+    match loop_before(line, at) {
+        None => None,
+        Some((index, parameters)) => {
+            let body = &line.commands.as_slice()[at..];
+            parameter_in(index, parameters, parameter, body)
+        }
     }
 }
 
@@ -136,6 +184,7 @@ impl Holder {
             Holder::Line(behind, at) => Place::Argument(Source::Line(behind), *at),
             Holder::Text(given, at) => Place::Argument(Source::Text(given), *at),
             Holder::Condition(behind) => Place::Condition(behind),
+            Holder::Parameter(body, at) => Place::Parameter(body, *at),
         }
     }
 }
@@ -148,6 +197,7 @@ impl<'t> Place<'t> {
         match self {
             Place::Argument(source, _) => source.position(),
             Place::Condition(behind) => &behind.position,
+            Place::Parameter(body, _) => &body.position,
         }
     }
 
@@ -158,6 +208,7 @@ impl<'t> Place<'t> {
         match self {
             Place::Argument(source, at) => argument_at(source.all(), at),
             Place::Condition(behind) => condition_before(&behind.line, behind.at),
+            Place::Parameter(body, at) => parameter_at(&body.line, body.at, at),
         }
     }
 
@@ -172,6 +223,7 @@ impl<'t> Place<'t> {
                 Source::Text(given) => Ok(Holder::Text(given.clone()?, at)),
             },
             Place::Condition(behind) => Ok(Holder::Condition(behind.copy()?)),
+            Place::Parameter(body, at) => Ok(Holder::Parameter(body.copy()?, at)),
         }
     }
 

@@ -1,5 +1,5 @@
 -- SPDX-License-Identifier: Apache-2.0
-use Rattle.mexec.proofs.ExecLaws.{suc, sym, context, arg_tree, position_of, at_as, one_more, started_without, plain_room}
+use Rattle.mexec.proofs.ExecLaws.{[], suc, sym, context, arg_tree, position_of, at_as, one_more, plain_ahead, spent_ahead, started_without}
 use Rattle.mexec.specs.Arguments.{started_plainly}
 use Rattle.mexec.proofs.arguments.argument_begun.Goals as goal
 
@@ -18,5 +18,8 @@ returns-else-calls_in_argument-clause-does g c =
 pub returns-else-calls_in_argument-clause-enters : goal.returns-else-calls_in_argument-clause-enters
 returns-else-calls_in_argument-clause-enters g c = λ args at there. c.argument.ensures.enters args at
 
-pub returns-else-calls_in_argument-clause-room : goal.returns-else-calls_in_argument-clause-room
-returns-else-calls_in_argument-clause-room g c = plain_room _ _ c.argument.ensures.does.keeps.eval.fewer c.argument.result c.argument.ensures.enters
+pub returns-then-calls_in_argument-clause-ahead : goal.returns-then-calls_in_argument-clause-ahead
+returns-then-calls_in_argument-clause-ahead g c = spent_ahead _ _ c.program_begun.result c.program_begun.ensures.spent
+
+pub returns-else-calls_in_argument-clause-ahead : goal.returns-else-calls_in_argument-clause-ahead
+returns-else-calls_in_argument-clause-ahead g c = plain_ahead _ _ c.argument.result c.argument.ensures.does.keeps.eval.fewer (c.argument.ensures.enters [] 0)

@@ -64,7 +64,8 @@ pub argument_begun-requires-clause-stepped : goal.argument_begun-requires-clause
 argument_begun-requires-clause-stepped g c =
     one_stepped in_steps_arg arg_tree c.args.args.now c.loop-at.at c.index-args-at.result c.loop-at-test.true c.index-args-at.is c.requires.stepped
 
-pub returns-in-Stops-clause-room : goal.returns-in-Stops-clause-room
-returns-in-Stops-clause-room g c =
-    let room = rw c.in-Stops.is at c.in_ok-completion.ensures.room in
-    omega (arith, room, c.loop-at.invariant.fewer)
+pub returns-in-Stops-clause-ahead : goal.returns-in-Stops-clause-ahead
+returns-in-Stops-clause-ahead g c =
+    let before = c.loop-at.invariant.fewer in
+    let ahead = rw c.in-Stops.is at c.in_ok-completion.ensures.ahead in
+    omega (arith, before, ahead)

@@ -22,6 +22,16 @@ returns-in-Over-clause-does g c =
     at_as (λ a n. started_with (context a (suc n) (position_of c.args.position.now)) t c.requires.calls)
     (at_then (λ a n r. give (progress_at (ending_of (of_argument t)) r)) does (at_gives (over (completion_of c.in-Over.completion)) start_of (progress.Over c.in-Over.completion) refl))
 
+pub returns-in_err-one_spent-in_default-clause-does : goal.returns-in_err-one_spent-in_default-clause-does
+returns-in_err-one_spent-in_default-clause-does g c =
+    let t = arg_tree c.args.arg.now in
+    let k = ending_of (of_argument t) in
+    let does = rw c.new.ensures.items at c.in_ok-pause.ensures in
+    let wants = rw c.in_err-one_spent-in_default.ensures.wants at c.from_residual-in_err-one_spent-in_default.ensures in
+    at_as (λ a n. started_with (context a (suc n) (position_of c.args.position.now)) t c.requires.calls)
+    (at_then (λ a n r. give (progress_at k r)) does
+    (at_wanting (λ a n. give (progress_at k (pause_of (of_argument t) c.in_ok-pause.pause))) start_of _ wants))
+
 pub returns-in_err-boxed-in_default-clause-does : goal.returns-in_err-boxed-in_default-clause-does
 returns-in_err-boxed-in_default-clause-does g c =
     let t = arg_tree c.args.arg.now in
@@ -45,18 +55,5 @@ returns-in_ok-boxed-in_default-clause-does g c =
 pub returns-in_ok-boxed-in_default-clause-enters : goal.returns-in_ok-boxed-in_default-clause-enters
 returns-in_ok-boxed-in_default-clause-enters g c = λ args at there. there ∙ ap (λ r. Some r.arg.now) (sym c.in_ok-boxed-in_default.ensures.ok)
 
-pub returns-in_err-spent_before-in_default-clause-does : goal.returns-in_err-spent_before-in_default-clause-does
-returns-in_err-spent_before-in_default-clause-does g c =
-    let t = arg_tree c.args.arg.now in
-    let k = ending_of (of_argument t) in
-    let does = rw c.new.ensures.items at c.in_ok-pause.ensures in
-    let wants = rw c.in_err-spent_before-in_default.ensures.wants at c.from_residual-in_err-spent_before-in_default.ensures in
-    at_as (λ a n. started_with (context a (suc n) (position_of c.args.position.now)) t c.requires.calls)
-    (at_then (λ a n r. give (progress_at k r)) does
-    (at_wanting (λ a n. give (progress_at k (pause_of (of_argument t) c.in_ok-pause.pause))) start_of _ wants))
-
-pub spent_before-requires : goal.spent_before-requires
-spent_before-requires g c = c.in_ok-pause.ensures.keeps.eval.fewer
-
-pub returns-in_ok-boxed-in_default-clause-room : goal.returns-in_ok-boxed-in_default-clause-room
-returns-in_ok-boxed-in_default-clause-room g c = rw c.in_ok-boxed-in_default.ensures.ok c.in_ok-spent_before-in_default.ensures.room
+pub returns-in_ok-boxed-in_default-clause-spent : goal.returns-in_ok-boxed-in_default-clause-spent
+returns-in_ok-boxed-in_default-clause-spent g c = c.in_ok-one_spent-in_default.ensures.spent

@@ -12,4 +12,4 @@ returns-clause-does g c =
     rw c.into_inner-pause.ensures at (c.resume.ensures.does _ whole)
 
 pub returns-clause-falls : goal.returns-clause-falls
-returns-clause-falls g c = rw c.into_inner-pause.ensures at c.resume.ensures.falls
+returns-clause-falls g c = c.resume.ensures.falls

@@ -1,8 +1,8 @@
 -- SPDX-License-Identifier: Apache-2.0
-use Rattle.mexec.proofs.ExecLaws.{true, arith, map, sym, ap, ◌∙◌, context, arg_tree, keyword_tree, position_of, rest_tree, args_before, runs_as}
-use Rattle.mexec.proofs.ExecLaws.{runs_completion, further_then, further_stopped, effect_started, falls_within, before_stepped, command_there, effect_is}
+use Rattle.mexec.proofs.ExecLaws.{true, arith, map, context, arg_tree, keyword_tree, position_of, rest_tree, runs_as}
+use Rattle.mexec.proofs.ExecLaws.{runs_completion, further_if, further_then, further_stopped, stop_fits, effect_started, falls_within, before_stepped, command_there, effect_is}
 use Rattle.std.specs.Prelude.{false, ◌≡◌}
-use Rattle.mexec.specs.Fronts.{finishes}
+use Rattle.mexec.specs.Fronts.{StopFits, finishes}
 use Rattle.mexec.specs.Frames.{spaced_before}
 use Rattle.mexec.proofs.continuation.effected.Goals as goal
 
@@ -53,9 +53,9 @@ pub returns-in-Stops-clause-falls : goal.returns-in-Stops-clause-falls
 returns-in-Stops-clause-falls g c =
     let behind = c.args.behind.now in
     let there = command_there (spaced_before behind.line.value behind.at) c.args.command.now c.requires in
-    let room = rw c.in-Stops.is at c.in_ok-outcome.ensures.room in
+    let fewer = rw c.in-Stops.is at c.in_ok-outcome.ensures.ahead in
     let stops = rw (c.deref-2.ensures.value, c.in-Stops.is) at c.in_ok-outcome.ensures.stops in
-    falls_within _ _ _ c.stopped_at.result (omega (arith, room)) (c.stopped_at.ensures.within (rw there.1 stops))
+    falls_within _ _ _ c.stopped_at.result (omega (arith, fewer)) (c.stopped_at.ensures.within (rw there.1 stops))
 
 pub returns-in-Stops-clause-does : goal.returns-in-Stops-clause-does
 returns-in-Stops-clause-does g c =
@@ -66,7 +66,8 @@ returns-in-Stops-clause-does g c =
     let stepped = rw there.1 at (before_stepped behind.line.value behind.at behind.played) in
     let does = rw (c.deref.ensures, c.deref-2.ensures.value, c.in-Stops.is) at c.in_ok-outcome.ensures.does in
     let rest = rw there.1 at c.stopped_at.ensures.does in
+    let ahead = rw c.in-Stops.is at c.in_ok-outcome.ensures.ahead in
     rw there.0
     (runs_as (λ a n. effect_is a n p (keyword_tree command.keyword) (map arg_tree command.args.items) (rest_tree behind) stepped)
-    (further_then (λ a n. effect_started (context a n p) (keyword_tree command.keyword) (map arg_tree command.args.items))
-    (λ a n. finishes (context a n p) (rest_tree behind)) does rest))
+    (further_if (λ s n h. h) (λ a n. effect_started (context a n p) (keyword_tree command.keyword) (map arg_tree command.args.items))
+    (λ a n. finishes (context a n p) (rest_tree behind)) {more = StopFits c.in-Stops.stop} does (λ n less. stop_fits c.in-Stops.stop _ _ n ahead less) rest))

@@ -36,7 +36,7 @@ returns-clause-does g c =
     let does = rw (c.deref.ensures, c.deref-2.ensures, c.in-Stops.is) at c.in_ok-outcome.ensures.does in
     let goes = rw (c.in_ok-behind-in-Stops.ensures.position, c.in_ok-behind-in-Stops.ensures.line, c.in_ok-behind-in-Stops.ensures.at) at c.go_on.ensures.does in
     let spent = rw c.in-Stops.is at c.in_ok-outcome.ensures.spent in
-    front_stops (position_of r.position.value) r.line.value r.played r.at does spent goes
+    front_stops (position_of r.position.value) r.line.value r.played r.at c.in-Stops.stop does spent goes
 
 pub front-requires : goal.front-requires
 front-requires g c = rw c.deref-2.ensures c.args.rest.played

@@ -1,6 +1,5 @@
 -- SPDX-License-Identifier: Apache-2.0
-use Rattle.mexec.proofs.ExecLaws.{runs_wanting, runs_within, argument_before, condition_stop, loop_stop, turns_stop}
-use Rattle.mexec.proofs.ExecLaws.{ap, sym, ◌∙◌, arith, entrance_fits, falls_within}
+use Rattle.mexec.proofs.ExecLaws.{arith, most_ahead, falls_within, runs_within, argument_before, condition_stop, loop_stop, turns_stop}
 use Rattle.mexec.specs.Frames.{spaced_before}
 use Rattle.mexec.proofs.continuation.stopped_at.Goals as goal
 
@@ -12,29 +11,22 @@ enter_argument-requires g c =
 pub returns-in-Argument-clause-does : goal.returns-in-Argument-clause-does
 returns-in-Argument-clause-does g c = rw c.in-Argument.is c.enter_argument.ensures.does
 
-pub returns-in_err-copy-in-Loop-clause-does : goal.returns-in_err-copy-in-Loop-clause-does
-returns-in_err-copy-in-Loop-clause-does g c = runs_wanting _ _ c.from_residual.ensures
-
 pub next_parameter-requires-clause-found : goal.next_parameter-requires-clause-found
 next_parameter-requires-clause-found g c =
-    let stops = loop_stop (spaced_before c.args.behind.now.line.value c.args.behind.now.at) _ _ (rw c.in-Loop.is at c.requires) in
-    rw (c.in_ok-copy-in-Loop.ensures.line, c.in_ok-copy-in-Loop.ensures.at) stops.0
+    (loop_stop (spaced_before c.args.behind.now.line.value c.args.behind.now.at) _ _ (rw c.in-Loop.is at c.requires)).0
 
 pub next_parameter-requires-clause-indexed : goal.next_parameter-requires-clause-indexed
 next_parameter-requires-clause-indexed g c =
-    let stops = loop_stop (spaced_before c.args.behind.now.line.value c.args.behind.now.at) _ _ (rw c.in-Loop.is at c.requires) in
-    rw (c.in_ok-copy-in-Loop.ensures.line, c.in_ok-copy-in-Loop.ensures.at) stops.1
+    (loop_stop (spaced_before c.args.behind.now.line.value c.args.behind.now.at) _ _ (rw c.in-Loop.is at c.requires)).1
 
-pub returns-in_ok-copy-in-Loop-clause-does : goal.returns-in_ok-copy-in-Loop-clause-does
-returns-in_ok-copy-in-Loop-clause-does g c =
-    let does = rw (c.in_ok-copy-in-Loop.ensures.position, c.in_ok-copy-in-Loop.ensures.line, c.in_ok-copy-in-Loop.ensures.at) at c.next_parameter.ensures.does in
-    rw c.in-Loop.is (runs_within does)
+pub returns-in-Loop-clause-does : goal.returns-in-Loop-clause-does
+returns-in-Loop-clause-does g c = rw c.in-Loop.is c.next_parameter.ensures.does
 
 pub forever-requires : goal.forever-requires
 forever-requires g c = turns_stop (spaced_before c.args.behind.now.line.value c.args.behind.now.at) (rw c.in-Turns.is at c.requires)
 
 pub returns-in-Turns-clause-does : goal.returns-in-Turns-clause-does
-returns-in-Turns-clause-does g c = rw c.in-Turns.is (runs_within c.forever.ensures.does)
+returns-in-Turns-clause-does g c = rw c.in-Turns.is c.forever.ensures.does
 
 pub returns-in-Block-clause-does : goal.returns-in-Block-clause-does
 returns-in-Block-clause-does g c =
@@ -60,14 +52,14 @@ returns-in-Condition-clause-within g c = λ h. absurd (rw c.in-Condition.is at h
 
 pub returns-in-Argument-clause-falls : goal.returns-in-Argument-clause-falls
 returns-in-Argument-clause-falls g c =
-    let fits = entrance_fits c.in-Argument.entrance in
+    let fits = most_ahead c.in-Argument.entrance in
     falls_within _ _ _ c.enter_argument.result (omega (arith, fits)) c.enter_argument.ensures.falls
 
 pub returns-in-Argument-clause-within : goal.returns-in-Argument-clause-within
 returns-in-Argument-clause-within g c = λ h. rw c.in-Argument.is c.enter_argument.ensures.falls
 
-pub returns-in_ok-copy-in-Loop-clause-within : goal.returns-in_ok-copy-in-Loop-clause-within
-returns-in_ok-copy-in-Loop-clause-within g c = λ h. rw c.in-Loop.is (falls_within _ _ _ c.next_parameter.result (omega arith) c.next_parameter.ensures.falls)
+pub returns-in-Loop-clause-within : goal.returns-in-Loop-clause-within
+returns-in-Loop-clause-within g c = λ h. rw c.in-Loop.is (falls_within _ _ _ c.next_parameter.result (omega arith) c.next_parameter.ensures.falls)
 
 pub returns-in-Turns-clause-within : goal.returns-in-Turns-clause-within
 returns-in-Turns-clause-within g c = λ h. rw c.in-Turns.is (falls_within _ _ _ c.forever.result (omega arith) c.forever.ensures.falls)

@@ -4,8 +4,8 @@ use Rattle.mexec.proofs.ExecLaws.{Context, Go_on, context, keyword_tree, arg_tre
 use Rattle.mmeaning.proofs.ProgramSteps.{each_of}
 use Rattle.mexec.proofs.ExecLaws.{effect_started, outcome_of, Stop, at_then, at_stopped, at_gives}
 use Rattle.mexec.proofs.ExecLaws.{at_as, one_more, inside_of, condition_tree, holds_here, neither, Option}
-use Rattle.mexec.proofs.ExecLaws.{effect_stops, stops, ap, sym, ◌∙◌, DoesAt, Ghosts, Parts, Result, Code, Position}
-use Rattle.std.specs.Prelude.{false, true}
+use Rattle.mexec.proofs.ExecLaws.{ahead_before, arith, effect_stops, stops, ap, sym, ◌∙◌, DoesAt, Ghosts, Parts, Result, Code, Position}
+use Rattle.std.specs.Prelude.{false}
 use Rattle.mmeaning.specs.LineMeaning.{holds}
 use Rattle.std.specs.List.{list_any}
 use Rattle.mgrammar.specs.Grammar.{ExprTree}
@@ -107,3 +107,9 @@ returns-then-calls_in_condition-clause-stops g c =
     let has = sym c.calls_in_condition.ensures ∙ c.if-calls_in_condition.true in
     let command = c.args.command.now in
     (refl, has, (each_of (in_steps_optional (condition command)) (in_steps_args (map arg_tree command.args.items)) c.requires.stepped).0)
+
+pub returns-then-calls_in_condition-clause-ahead : goal.returns-then-calls_in_condition-clause-ahead
+returns-then-calls_in_condition-clause-ahead g c = omega arith
+
+pub returns-then-applies-clause-ahead : goal.returns-then-applies-clause-ahead
+returns-then-applies-clause-ahead g c = ahead_before _ _ _ c.effect.result c.in_ok-applies.ensures.keeps.eval.fewer c.effect.ensures.ahead

@@ -68,7 +68,7 @@ pub returns-in-Stops-clause-spent : goal.returns-in-Stops-clause-spent
 returns-in-Stops-clause-spent g c =
     let before = c.loop-at.invariant.fewer in
     let spent = c.in_ok-charge.ensures.spent in
-    let done = c.in_ok-completion.ensures.does.keeps.eval.fewer in
+    let done = rw c.in-Stops.is at c.in_ok-completion.ensures.ahead in
     omega (arith, before, spent, done)
 
 pub returns-in-Stops-clause-stops : goal.returns-in-Stops-clause-stops

@@ -1,7 +1,6 @@
 -- SPDX-License-Identifier: Apache-2.0
 use Rattle.mexec.proofs.ExecLaws.{suc, ◌≡◌, List, [], ◌∷◌, Some, None, slice_get, unwrap_or, map, ap, sym, refl, ◌∙◌, context, keyword_tree, arg_tree}
-use Rattle.mexec.proofs.ExecLaws.{parameter_tree, position_of, stops, at_loop, at_gives, at_as, one_more, gives_stop, begun_stops, other_started}
-use Rattle.mexec.proofs.ExecLaws.{arith, bare_room, begun_room}
+use Rattle.mexec.proofs.ExecLaws.{parameter_tree, position_of, stops, at_loop, at_gives, at_as, one_more, gives_stop, begun_stops, begun_ahead, bare_ahead, other_started, arith}
 use Rattle.mtree.specs.declared.tree.Arg.TheVariants as arg
 use Rattle.mexec.specs.Fronts.{word_started}
 use Rattle.mexec.proofs.front.effect.Goals as goal
@@ -50,11 +49,13 @@ returns-in_default-clause-does g c =
     (at_as (λ a n. other_started (context a (suc n) (position_of c.args.position.now)) (keyword_tree c.args.keyword) c.in-Some.first.now (map arg_tree some.0) c.in_default.not-Loop)
     (gives_stop (c.in-Some.first.now ∷ some.0) c.arguments_begun.result does))
 
-pub returns-in-None-clause-room : goal.returns-in-None-clause-room
-returns-in-None-clause-room g c = bare_room _ _ (c.bare.ensures.does (position_of c.args.position.now)).keeps.eval.fewer c.bare.result c.bare.ensures.turns
+pub returns-in-None-clause-ahead : goal.returns-in-None-clause-ahead
+returns-in-None-clause-ahead g c =
+    let does = c.bare.ensures.does (position_of c.args.position.now) in
+    bare_ahead _ _ c.bare.result does.keeps.eval.fewer c.bare.ensures.ahead
 
-pub returns-in-Loop-clause-room : goal.returns-in-Loop-clause-room
-returns-in-Loop-clause-room g c = omega arith
+pub returns-in-Loop-clause-ahead : goal.returns-in-Loop-clause-ahead
+returns-in-Loop-clause-ahead g c = omega arith
 
-pub returns-in_default-clause-room : goal.returns-in_default-clause-room
-returns-in_default-clause-room g c = rw c.stopped.ensures (begun_room _ _ c.arguments_begun.result c.arguments_begun.ensures.room)
+pub returns-in_default-clause-ahead : goal.returns-in_default-clause-ahead
+returns-in_default-clause-ahead g c = rw c.stopped.ensures (begun_ahead _ _ c.arguments_begun.result c.arguments_begun.ensures.ahead)

@@ -1,5 +1,5 @@
 -- SPDX-License-Identifier: Apache-2.0
-use Rattle.mexec.proofs.ExecLaws.{◌≡◌, sym, arith, drop, true, pause_fits, falls_one_more, position_of, context, runs_as, further_then, further_stopped}
+use Rattle.mexec.proofs.ExecLaws.{◌≡◌, sym, drop, true, position_of, context, runs_as, arith, further_if, further_ended}
 use Rattle.std.specs.Prelude.{false}
 use Rattle.mmeaning.specs.Frames.{resumed}
 use Rattle.mmeaning.specs.Programs.{begun}
@@ -18,7 +18,7 @@ returns-in_err-pause-clause-does g c =
     let does = rw c.position.ensures at c.in_err-pause.ensures in
     rw (sym whole)
     (runs_as (λ a n. programs_pause a n p (drop c.args.from (steps_of w)) (ending_of w) (items_view c.args.items.items))
-    (further_stopped (λ a n. begun (context a n p) (drop c.args.from (steps_of w)) (ending_of w) (items_view c.args.items.items))
+    (further_ended (λ s n h. omega (arith, h)) (λ a n. begun (context a n p) (drop c.args.from (steps_of w)) (ending_of w) (items_view c.args.items.items))
     (λ a n. resumed a n p (ending_of w)) does c.from_residual.ensures))
 
 pub returns-clause-does : goal.returns-clause-does
@@ -29,14 +29,8 @@ returns-clause-does g c =
     let does = rw c.position.ensures at c.in_ok-pause.ensures in
     rw (sym whole)
     (runs_as (λ a n. programs_pause a n p (drop c.args.from (steps_of w)) (ending_of w) (items_view c.args.items.items))
-    (further_then (λ a n. begun (context a n p) (drop c.args.from (steps_of w)) (ending_of w) (items_view c.args.items.items))
-    (λ a n. resumed a n p (ending_of w)) does (c.resume.ensures.does w (sym whole))))
-
-pub returns-clause-falls : goal.returns-clause-falls
-returns-clause-falls g c =
-    let fewer = c.in_ok-pause.ensures.keeps.eval.fewer in
-    let fits = pause_fits c.in_ok-pause.pause in
-    falls_one_more _ _ _ c.resume.result (omega (arith, fewer, fits)) c.resume.ensures.falls
+    (further_if (λ s n h. omega (arith, h)) (λ a n. begun (context a n p) (drop c.args.from (steps_of w)) (ending_of w) (items_view c.args.items.items))
+    (λ a n. resumed a n p (ending_of w)) does (λ n h. let few = does.keeps.eval.fewer in omega (arith, h, few)) (c.resume.ensures.does w (sym whole))))
 
 pub returns-in_default-clause-does : goal.returns-in_default-clause-does
 returns-in_default-clause-does g c =

@@ -1,8 +1,12 @@
 -- SPDX-License-Identifier: Apache-2.0
 use Rattle.mexec.proofs.ExecLaws.{refl, ap, give, write, at_as, at_any, at_then, at_stopped, at_yielded, at_gives, at_wanting}
 use Rattle.mmeaning.specs.LineMeaning.{Returns, spaced_to, character_written, where_true}
-use Rattle.mmeaning.specs.Programs.{over, executes}
-use Rattle.mexec.specs.Programs.{pause_of}
+use Rattle.mexec.proofs.ExecLaws.{◌≡◌, Act, Text, form_of, keyword_tree}
+use Rattle.mmeaning.specs.Programs.{Pause, over, executes, lists}
+use Rattle.mprogram.specs.Views.{ending_view}
+use Rattle.mprogram.specs.declared.op.Ending.{Ending}
+use Rattle.mprogram.specs.declared.op.Ending.TheVariants as ending
+use Rattle.mexec.specs.Programs.{ends_with, pause_of}
 use Rattle.mexec.specs.declared.programs.Pause.TheVariants as pause
 use Rattle.mexec.specs.declared.completion.Completion.TheVariants as completion
 use Rattle.mexec.proofs.ProgramRuns.{goes_over, holds_over, waits_over, tested_is}
@@ -48,11 +52,24 @@ returns-in-Return g c = λ w.
 pub returns-in-Run : goal.returns-in-Run
 returns-in-Run g c = λ w. rw c.in-Run.is (at_gives (executes c.args.value) (pause_of w) (pause.Executes c.args.value) refl)
 
-pub returns-in-Assign : goal.returns-in-Assign
-returns-in-Assign g c = λ w. rw c.in-Assign.is (at_gives (executes c.args.value) (pause_of w) (pause.Executes c.args.value) refl)
+pub returns-in-Indirect : goal.returns-in-Indirect
+returns-in-Indirect g c = λ w. rw c.in-Indirect.is (at_gives (lists (form_of (keyword_tree c.in-Indirect.keyword)) c.args.value) (pause_of w) (pause.Lists c.in-Indirect.keyword c.args.value) refl)
 
-pub returns-in-Enter : goal.returns-in-Enter
-returns-in-Enter g c = λ w. rw c.in-Enter.is (at_gives (executes c.args.value) (pause_of w) (pause.Executes c.args.value) refl)
+-- what does nothing with a value
+other_ending : (k : Ending) (v : Text) → (k ≡ ending.Show → ⊥) → (k ≡ ending.Tab → ⊥) → (k ≡ ending.Character → ⊥) → (k ≡ ending.Test → ⊥)
+    → (k ≡ ending.Hold → ⊥) → (k ≡ ending.Wait → ⊥) → (k ≡ ending.Return → ⊥) → ((word : _) → k ≡ ending.Indirect word → ⊥)
+    → ◌≡◌ {A = Act Pause} (ends_with (ending_view k) v) (give (executes v))
+other_ending ending.Show v show tab character test hold wait returns indirect = absurd (show refl)
+other_ending ending.Tab v show tab character test hold wait returns indirect = absurd (tab refl)
+other_ending ending.Character v show tab character test hold wait returns indirect = absurd (character refl)
+other_ending ending.Test v show tab character test hold wait returns indirect = absurd (test refl)
+other_ending ending.Hold v show tab character test hold wait returns indirect = absurd (hold refl)
+other_ending ending.Wait v show tab character test hold wait returns indirect = absurd (wait refl)
+other_ending ending.Return v show tab character test hold wait returns indirect = absurd (returns refl)
+other_ending (ending.Indirect word) v show tab character test hold wait returns indirect = absurd (indirect word refl)
+other_ending k v show tab character test hold wait returns indirect = refl
 
 pub returns : goal.returns
-returns g c = λ w. rw c.in-Go.is (at_gives (executes c.args.value) (pause_of w) (pause.Executes c.args.value) refl)
+returns g c = λ w.
+    at_as (λ a n. other_ending c.args.ending c.args.value c.in_default.not-Show c.in_default.not-Tab c.in_default.not-Character c.in_default.not-Test c.in_default.not-Hold c.in_default.not-Wait c.in_default.not-Return c.in_default.not-Indirect)
+    (at_gives (executes c.args.value) (pause_of w) (pause.Executes c.args.value) refl)

@@ -1,6 +1,6 @@
 -- SPDX-License-Identifier: Apache-2.0
 use Rattle.mexec.proofs.ExecLaws.{refl, arith, context, completion_of, position_of, turning, runs_completion, runs_wanting, runs_as, at_plain, course_runs}
-use Rattle.mexec.proofs.ExecLaws.{not_gone_on, turn_charge_failed, falls_within, after_turn_is, turn_left, runs_then, runs_stopped, at_yielded, turn_stops}
+use Rattle.mexec.proofs.ExecLaws.{not_gone_on, turn_charge_failed, falls_within, after_turn_is, turn_left, within_then, within_stopped, at_yielded, turn_stops}
 use Rattle.mexec.proofs.ExecLaws.{turn_stopped, turn_over}
 use Rattle.mexec.proofs.turns.after_course.Goals as goal
 
@@ -65,7 +65,7 @@ turns-preserved g c =
           c.turns.invariant.leads r fs p
           (turn_over c.args.turns.value gone (at_plain c.in_ok-charge.ensures.does) c.in_ok-charge.ensures.spent body
           (runs_as (λ a n. after_turn_is (context a n (position_of c.args.turns.value.body.position.value)) (turning c.args.turns.value) (completion_of c.in-Over.completion))
-          (runs_then (λ a n. turn_left (context a n (position_of c.args.turns.value.body.position.value)) (turning c.args.turns.value)) (at_yielded ends) k)));
+          (within_then (λ a n. turn_left (context a n (position_of c.args.turns.value.body.position.value)) (turning c.args.turns.value)) (at_yielded ends) k)));
     }
 
 pub returns-in-Some-clause-falls : goal.returns-in-Some-clause-falls
@@ -86,19 +86,19 @@ returns-in-Some-clause-does g c =
     (c.turns.invariant.leads _ _ _
     (turn_over t gone (at_plain c.in_ok-charge.ensures.does) c.in_ok-charge.ensures.spent body
     (runs_as (λ a n. after_turn_is (context a n (position_of t.body.position.value)) (turning t) (completion_of c.in-Over.completion))
-    (runs_then (λ a n. turn_left (context a n (position_of t.body.position.value)) (turning t)) (at_yielded ends) (runs_completion c.in-Some.completion)))))
+    (within_then (λ a n. turn_left (context a n (position_of t.body.position.value)) (turning t)) (at_yielded ends) (runs_completion c.in-Some.completion)))))
 
 pub returns-in_err-behind-in-Stops-clause-does : goal.returns-in_err-behind-in-Stops-clause-does
 returns-in_err-behind-in-Stops-clause-does g c =
     let gone = rw (c.deref-in-turns.ensures, c.if-not-goes_on.false) at c.in_ok-goes_on.ensures in
-    let body = rw (c.deref-in-turns-2.ensures, c.deref-in-turns-3.ensures, c.in_ok-body.ensures.position, c.in_ok-body.ensures.line, c.in_ok-body.ensures.at, c.deref.ensures) at c.in_ok-outcome.ensures.does in
-    c.turns.invariant.leads _ _ _ (turn_stops c.args.turns.value gone (at_plain c.in_ok-charge.ensures.does) c.in_ok-charge.ensures.spent body (rw c.in-Stops.is at c.in_ok-outcome.ensures.spent) (runs_wanting _ _ c.from_residual-in_err-behind-in-Stops.ensures))
+    let body = rw (c.deref-in-turns-2.ensures, c.deref-in-turns-3.ensures, c.in_ok-body.ensures.position, c.in_ok-body.ensures.line, c.in_ok-body.ensures.at, c.deref.ensures, c.in-Stops.is) at c.in_ok-outcome.ensures.does in
+    c.turns.invariant.leads _ _ _ (turn_stops c.args.turns.value gone (at_plain c.in_ok-charge.ensures.does) c.in_ok-charge.ensures.spent c.in-Stops.stop body (rw c.in-Stops.is at c.in_ok-outcome.ensures.spent) (runs_wanting _ _ c.from_residual-in_err-behind-in-Stops.ensures))
 
 pub returns-in_err-leave_turns-in-Stops-clause-does : goal.returns-in_err-leave_turns-in-Stops-clause-does
 returns-in_err-leave_turns-in-Stops-clause-does g c =
     let gone = rw (c.deref-in-turns.ensures, c.if-not-goes_on.false) at c.in_ok-goes_on.ensures in
-    let body = rw (c.deref-in-turns-2.ensures, c.deref-in-turns-3.ensures, c.in_ok-body.ensures.position, c.in_ok-body.ensures.line, c.in_ok-body.ensures.at, c.deref.ensures) at c.in_ok-outcome.ensures.does in
-    c.turns.invariant.leads _ _ _ (turn_stops c.args.turns.value gone (at_plain c.in_ok-charge.ensures.does) c.in_ok-charge.ensures.spent body (rw c.in-Stops.is at c.in_ok-outcome.ensures.spent) (runs_wanting _ _ c.from_residual-in_err-leave_turns-in-Stops.ensures))
+    let body = rw (c.deref-in-turns-2.ensures, c.deref-in-turns-3.ensures, c.in_ok-body.ensures.position, c.in_ok-body.ensures.line, c.in_ok-body.ensures.at, c.deref.ensures, c.in-Stops.is) at c.in_ok-outcome.ensures.does in
+    c.turns.invariant.leads _ _ _ (turn_stops c.args.turns.value gone (at_plain c.in_ok-charge.ensures.does) c.in_ok-charge.ensures.spent c.in-Stops.stop body (rw c.in-Stops.is at c.in_ok-outcome.ensures.spent) (runs_wanting _ _ c.from_residual-in_err-leave_turns-in-Stops.ensures))
 
 pub go_on-requires : goal.go_on-requires
 go_on-requires g c =
@@ -110,7 +110,7 @@ returns-in-Stops-clause-does g c =
     let gone = rw (c.deref-in-turns.ensures, c.if-not-goes_on.false) at c.in_ok-goes_on.ensures in
     let body = rw (c.deref-in-turns-2.ensures, c.deref-in-turns-3.ensures, c.in_ok-body.ensures.position, c.in_ok-body.ensures.line, c.in_ok-body.ensures.at, c.deref.ensures, c.in-Stops.is) at c.in_ok-outcome.ensures.does in
     let does = rw (c.in_ok-behind-in-Stops.ensures.position, c.in_ok-behind-in-Stops.ensures.line, c.in_ok-behind-in-Stops.ensures.at, c.in_ok-body.ensures.position, c.in_ok-body.ensures.line, c.deref.ensures, c.in_ok-leave_turns-in-Stops.ensures.frames, c.turns.invariant.scratch) at c.go_on.ensures.does in
-    c.turns.invariant.leads _ _ _ (turn_stops c.args.turns.value gone (at_plain c.in_ok-charge.ensures.does) c.in_ok-charge.ensures.spent body (rw c.in-Stops.is at c.in_ok-outcome.ensures.spent) does)
+    c.turns.invariant.leads _ _ _ (turn_stops c.args.turns.value gone (at_plain c.in_ok-charge.ensures.does) c.in_ok-charge.ensures.spent c.in-Stops.stop body (rw c.in-Stops.is at c.in_ok-outcome.ensures.spent) does)
 
 pub returns-in_err-turn_ends-in-Over-clause-does : goal.returns-in_err-turn_ends-in-Over-clause-does
 returns-in_err-turn_ends-in-Over-clause-does g c =
@@ -121,7 +121,7 @@ returns-in_err-turn_ends-in-Over-clause-does g c =
     (c.turns.invariant.leads _ _ _
     (turn_over t gone (at_plain c.in_ok-charge.ensures.does) c.in_ok-charge.ensures.spent body
     (runs_as (λ a n. after_turn_is (context a n (position_of t.body.position.value)) (turning t) (completion_of c.in-Over.completion))
-    (runs_stopped (λ a n. turn_left (context a n (position_of t.body.position.value)) (turning t)) (at_yielded c.in_err-turn_ends-in-Over.ensures) c.from_residual-in_err-turn_ends-in-Over.ensures))))
+    (within_stopped (λ a n. turn_left (context a n (position_of t.body.position.value)) (turning t)) (at_yielded c.in_err-turn_ends-in-Over.ensures) c.from_residual-in_err-turn_ends-in-Over.ensures))))
 
 pub front-requires : goal.front-requires
 front-requires g c = rw (c.deref-in-turns-3.ensures, c.in_ok-body.ensures.line, c.deref.ensures) c.args.turns.value.body.played

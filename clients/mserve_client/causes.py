@@ -53,8 +53,6 @@ _WRITE = r"(?:W|WRITE)(?::\S+)? "
 _FOR = r"(?:F|FOR) "
 _BARE = r"(?:D|DO|K|KILL|N|NEW|L|LOCK)(?::\S+)? [A-Z]+ "
 _COMMENT = r"//|/\*|#;"
-_NO_CALL = ("a call of a function where none is carried out", "What SET assigns to, FOR, KILL and LOCK take none, nor does what gives arguments by an @, nor "
-            "subscripts after one: set a variable first: S B=$$ADD^R(1) K A(B).")
 
 _COMMANDS = [
     Cause("a SET without its word", "Write S before it: S A=1.", "A=1", "command", r"\^?[A-Z%][A-Z0-9]*(?:\(\S*\))?="),
@@ -133,8 +131,8 @@ _ARGUMENTS = [
           r"(?:K|KILL|N|NEW)(?::\S+)? (?:\S*,)?\("),
 ]
 _VALUES = [
-    Cause(*_NO_CALL, "K A($$ADD^R(1))", "no call", r"\$\$"),
-    Cause(*_NO_CALL, "W @$$ADD^R(1)", "given", rf"[ ,;]|{END}", r"@\S*\$\$\S*"),
+    Cause("a call of a function where none is carried out", "Subscripts after an indirection take none: set a variable first: S B=$$ADD^R(1) W @A@(B).",
+          "W @A@($$ADD^R(1))", "no call", r"\$\$"),
     _later(1, Cause("an extrinsic function", "DO the label, which leaves its result in a variable: S A=1 D ADD^R W SUM.", "S X=$$ADD^R(1)", "operand",
                     r"\$\$")),
     Cause("a structured system variable", "There is none: mglobal knows what a store file has.", 'W $D(^$GLOBAL("X"))', "", r"\$", r"\^"),

@@ -13,8 +13,7 @@ the same few kinds of steps:
     ["mark", NAME, STEP]       the step, with its place kept under a name
 
 The rules of values and of variables are there twice: as they are, and with `whole` before their names for what is evaluated as a whole, as
-what SET assigns to, the parameters of FOR, and the subscripts after an indirection. From language 1 on the former have calls of functions, and the
-latter have none.
+the subscripts after an indirection are. From language 1 on the former have calls of functions, and the latter have none.
 
 A text is in the grammar if the rule `line` reaches its end. The place that was reached at most is that of the fault: what comes before
 it begins some line of the grammar, and what follows does not go on with it."""
@@ -143,7 +142,7 @@ def bracketed(step: Step) -> Step:
 
 CONDITION = all_of(text(":"), rule("expression"))
 # The operand of an indirection of arguments.
-OPERAND = all_of(text("@"), inner(f"{WHOLE}primary"))
+OPERAND = all_of(text("@"), inner("primary"))
 OPERATOR = r"[+\-*/\\#_=<>&!\[]|\]\]?|'(?:[=<>&!\[]|\]\]?)"
 COUNT = r"(?:[0-9]{1,4}(?![0-9.])|[0-9]{0,4}\.[0-9]{0,4}(?![0-9]))"
 # What comes before the name of another account's routine.
@@ -161,15 +160,6 @@ def further(language: int, kind: str) -> Step:
     """An operator and its operand of a kind, or a pattern."""
     operator = text(OPERATOR if language < 1 else rf"\*\*|{OPERATOR}", "operator")
     return any_of(all_of(operator, rule(f"{kind}operand")), all_of(text(r"'?\?"), rule(f"{kind}pattern")))
-
-
-def argument(language: int) -> Step:
-    """An expression. An `@` with its operand and nothing more gives arguments, and is evaluated as a whole."""
-    more: Step = ["many", further(language, "")]
-    subscripts = all_of(text(r"@(?=\()"), rule(f"{WHOLE}subscripts"))
-    return any_of(all_of(text("(?!@)"), rule("expression")),
-                  all_of(text("@"), inner("primary"), any_of(subscripts, further(language, ""), text("(?!)", "given")), more),
-                  OPERAND)
 
 
 def of_values(language: int) -> dict[str, tuple[int, int]]:
@@ -197,7 +187,7 @@ def halts(language: int) -> list[Step]:
     """HALT, and HANG if the language has it."""
     if language < HANG_SINCE:
         return [command("H HALT", None, True)]
-    seconds = listed(rule("argument"))
+    seconds = listed(rule("expression"))
     return [command("H", seconds, True), command("HALT", None, True), command("HANG", seconds, False)]
 
 
@@ -220,8 +210,8 @@ def target(words: str, least: int, most: int) -> Step:
     """A function of a variable that SET assigns to, with this many values after the variable."""
     further: list[Step] = []
     for _ in range(most - least):
-        further = [perhaps(all_of(text(","), inner(f"{WHOLE}expression"), *further))]
-    return all_of(text(rf"\${either(words)}\(", "target"), inner(f"{WHOLE}variable"), *[text(",", "comma"), inner(f"{WHOLE}expression")] * least, *further,
+        further = [perhaps(all_of(text(","), inner("expression"), *further))]
+    return all_of(text(rf"\${either(words)}\(", "target"), inner("variable"), *[text(",", "comma"), inner("expression")] * least, *further,
                   text(r"\)", f"close ${words.split()[-1]} of SET"))
 
 
@@ -230,7 +220,7 @@ def targets(language: int) -> Step:
     found = dict(TARGETS)
     for since, more in TARGETS_SINCE.items():
         found.update(more if since <= language else {})
-    return any_of(*[target(words, *counts) for words, counts in found.items()], rule(f"{WHOLE}variable"))
+    return any_of(*[target(words, *counts) for words, counts in found.items()], rule("variable"))
 
 
 def atom(language: int) -> Step:
@@ -284,7 +274,7 @@ def rules(language: int) -> dict[str, Step]:
     formats = [all_of(text("[!#]+"), perhaps(column)), column, all_of(text(r"\*"), rule("expression"))] if language >= 1 else [text("!+")]
     return {**SHARED, **(actual() if language >= PARAMETERS_SINCE else {}),
             "command": any_of(*COMMANDS, *entering(language), *halts(language)), "target": targets(language),
-            "argument": argument(language), "written": any_of(*formats, rule("argument")), "atom": atom(language),
+            "written": any_of(*formats, rule("expression")), "atom": atom(language),
             **of_kind(language, ""), **of_kind(language, WHOLE)}
 
 
@@ -294,12 +284,12 @@ HANDED = perhaps(bracketed(inner("actual")))
 COMMANDS = [
     command("S SET", listed(rule("assignment")), False),
     command("W WRITE", listed(rule("written")), False),
-    command("I IF", listed(rule("argument")), True, False),
+    command("I IF", listed(rule("expression")), True, False),
     command("F FOR", all_of(text(NAME, "name"), text("=", "equals"), listed(rule("parameter"))), True, False),
-    command("K KILL", listed(any_of(bracketed(text(NAME, "name")), rule(f"{WHOLE}variable"))), True),
+    command("K KILL", listed(any_of(bracketed(text(NAME, "name")), rule("variable"))), True),
     command("N NEW", listed(any_of(bracketed(text(NAME, "name")), text(NAME, "name"), OPERAND)), True),
     command("E ELSE", None, True, False),
-    command("X XECUTE", listed(any_of(all_of(rule("argument"), rule("condition")), all_of(rule("expression"), CONDITION))), False),
+    command("X XECUTE", listed(all_of(rule("expression"), rule("condition"))), False),
     command("L LOCK", listed(mark("lock", rule("locked"))), True)]
 # The rules that all languages have alike.
 SHARED: dict[str, Step] = {
@@ -308,11 +298,11 @@ SHARED: dict[str, Step] = {
     "assignment": any_of(all_of(any_of(all_of(text(r"\("), listed(inner("target")), text(r"\)", "close")), rule("target")), text("=", "equals"),
                                 rule("expression")),
                          all_of(OPERAND, text(f"(?=[ ,;]|{END})"))),
-    "parameter": all_of(rule(f"{WHOLE}expression"), perhaps(all_of(
-        text(":", "more"), rule(f"{WHOLE}expression"), perhaps(all_of(text(":", "more"), rule(f"{WHOLE}expression")))))),
+    "parameter": all_of(rule("expression"), perhaps(all_of(
+        text(":", "more"), rule("expression"), perhaps(all_of(text(":", "more"), rule("expression")))))),
     "locked": all_of(text("[+-]?"), any_of(all_of(text(r"\("), listed(inner("lockable")), text(r"\)", "close")), rule("lockable")),
-                     perhaps(all_of(text(":"), rule(f"{WHOLE}expression")))),
-    "lockable": all_of(text(r"(?!\^\()", "lockable"), rule(f"{WHOLE}variable")),
+                     perhaps(all_of(text(":"), rule("expression")))),
+    "lockable": all_of(text(r"(?!\^\()", "lockable"), rule("variable")),
     "atoms": all_of(rule("atom"), ["many", rule("atom")]),
 }
 # The tables of all languages that an account can have.

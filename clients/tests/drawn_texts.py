@@ -33,6 +33,8 @@ LATER = ["W $RE(A)", 'S A=$RE("ab")_1,B=$reverse(A) Q:B=""  W $L($RE(B_$RE(A)))'
          "W $$A,-$$A(1)+$$^R(.B,,$$B),($$A_1),$L($$A) D A($$B,.@$$C):$$A G A:$$B", "S A(1)=$$A,(B,C)=$$A**2 I $$A,'$$A X $$A:$$B H $$A Q:$$B  Q $$A($$A(1))",
          'W ?$$A,*$$A,$$A^|"LIB"|R(1) F I=1:1 S A=$$B(I) Q:$$A=A',
          'W A($$B(1),^C($$D)),$G(A($$B),$$C)_$O(^|$$A|B($$C),-$$D),$S($$A:B,@$$C@(1):$$D) I @$$A=1,A?@$$B X @$$A:$$B Q:$D(A(@B($$C)))  Q ^($$A)',
+         "S A($$B)=1,(A,^B($$C,$$D))=2,$P(A($$B),$$C,$$D)=3,$E(@$$A,$$B)=4 K A($$B),^($$C),@$$D L +(A($$B),@$$C):$$D,-A:$$B",
+         "F I=$$A,$$B:$$C,$$D:1:$$E W @$$A,@$$B_1 D @$$A,@B I @$$A,@$$B X @$$A,@$$B:$$C N @$$A,B G @$$A",
          "W 2**3,A**-B**(1+C)", "S A=2**B*2 I A**2>B,-A**2 S ^A(A**2)=A*B**2",
          'W $FN(A,","),$FNUMBER(A,"P",2)', 'S A=$FN(B_1,$RE("T,"),$J(1,1,0))_"x" I $FN(A,"")=A W $L($FN($FN(A,"-"),B))',
          'W $QL(A),$QS("A(1)",$QL(B)),$qlength("A"_$qsubscript(A,-1)) S A($QL(A))=$QS(A,B)_1',

@@ -12,7 +12,7 @@ SINCE = {
     "$TEXT": COMING, "indirection of entries": COMING, "labels of digits": COMING, "offsets of entries": COMING,
     "names of globals": COMING,
     "libraries": 1, "parameters": 1, "special variables": 1, "values of QUIT": 1,
-    # "functions" is of calls that can be carried out a step at a time, and the other of those in subscripts, targets, choices and the like.
+    # "functions" is of calls that can be carried out a step at a time, and the other of those in the subscripts after an indirection.
     "functions": 1, "functions anywhere": COMING,
 }
 

@@ -256,15 +256,14 @@ class Reader:
         if command in INDIRECT and self.next() == "@":
             begun = self.at
             self.at += 1
-            self.inside(self.primary)
+            operand = self.inside(self.primary)
             if self.next() in ("", ",", " ", ";") and not self.text.startswith("@(", self.at):
-                self.at = begun + 1
-                return "indirect arguments", self.at_once(lambda: self.inside(self.primary))
+                return "indirect arguments", operand
             self.at = begun
         return getattr(self, "argument_of_" + command.lower())()
 
     def argument_of_set(self) -> Tree:
-        targets = self.at_once(lambda: self.bracketed(self.target) if self.takes("(") else [self.target()])
+        targets = self.bracketed(self.target) if self.takes("(") else [self.target()]
         self.wants("=")
         return "set", targets, self.expression()
 
@@ -295,7 +294,7 @@ class Reader:
         return kind, found[0], found[1:]
 
     def argument_of_kill(self) -> Tree:
-        return ("names", self.bracketed(self.name)) if self.takes("(") else ("variable", self.at_once(self.reference))
+        return ("names", self.bracketed(self.name)) if self.takes("(") else ("variable", self.reference())
 
     def argument_of_new(self) -> Tree:
         return ("names", self.bracketed(self.name)) if self.takes("(") else ("name", self.name())
@@ -364,7 +363,7 @@ class Reader:
     def argument_of_for(self) -> Tree:
         name = self.name()
         self.wants("=")
-        return "for", name, self.at_once(lambda: self.listed(self.parameter))
+        return "for", name, self.listed(self.parameter)
 
     def parameter(self) -> Tree:
         parts = [self.expression()]
@@ -385,9 +384,6 @@ class Reader:
         return "value", self.expression()
 
     def argument_of_lock(self) -> Tree:
-        return self.at_once(self.locked)
-
-    def locked(self) -> Tree:
         sign = "+" if self.takes("+") else "-" if self.takes("-") else ""
         names = self.bracketed(self.lockable) if self.takes("(") else [self.lockable()]
         return "lock", sign, names, self.expression() if self.takes(":") else None

@@ -171,12 +171,14 @@ def test_language_of_the_account(request: pytest.FixtureRequest, number: int) ->
     """Lines are checked by it, and the cause of one that was refused is the one of the account's language."""
     own, asked = (request.getfixturevalue(name) for name in (("browser", "connection"), ("later_browser", "later_connection"))[number])
     taken, refused = ["W $RE(A)", "S $E(A,2)=1,$P(A,1,2,3)=B", "W !?5,$X,?$Y", "D F(1,.X,):$Q Q:A B",
-                      "S A=$$F(1)_$$^R D F($$G):$$H", "W A($$F),$S($$F:1,1:@$$G@(2))"], [
-        "W ?5!", "W !?", "S $P(A,1,2,3,4)=1", "W $RE(A) R X", "W $RE(A,1)", "W $re(", "R X", "D F(.1X)", "D F(1", "G F(1)", "Q A,B", "K A($$F)", "W $$",
-        "D $$F", "W @$$F"]
+                      "S A=$$F(1)_$$^R D F($$G):$$H", "W A($$F),$S($$F:1,1:@$$G@(2))", "S $P(A($$F),1)=1 K A($$F)",
+                      "F I=1:$$F:$$G L -A($$F):$$G W @$$F"], [
+        "W ?5!", "W !?", "S $P(A,1,2,3,4)=1", "W $RE(A) R X", "W $RE(A,1)", "W $re(", "R X", "D F(.1X)", "D F(1", "G F(1)", "Q A,B", "K @A@($$F)", "W $$",
+        "D $$F", "W @A@(B($$F))"]
     assert own.module(CHECK, [f" {text}" for text in taken + refused]) == [checked(asked, f" {text}") for text in taken + refused]
     assert [checked(asked, f" {text}") == [] for text in taken] == [number == 1] * len(taken)
-    lists = ["A(B,C) Q", "A()", "A(B,B) Q", "A(B,) Q", "A(1) Q", "A(B", "A(B)Q", "A(B) W $$A(1)", "A(B) K B($$A(1))", "A(B)\t. S X=B W $H", "(B) Q", "A (B) Q"]
+    lists = ["A(B,C) Q", "A()", "A(B,B) Q", "A(B,) Q", "A(1) Q", "A(B", "A(B)Q", "A(B) W $$A(1)", "A(B) K @B@($$A(1))", "A(B)\t. S X=B W $H", "(B) Q",
+             "A (B) Q"]
     assert own.module(CHECK, lists) == [checked(asked, text) for text in lists]
     refused += taken * (number == 0)
     assert own.module(FAULT, refused) == [as_told(fault_of(asked, text)) for text in refused]

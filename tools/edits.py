@@ -28,6 +28,7 @@ EXCEPTIONS = {
     "mprogram::calls_have_programs": "the same",
     "mprogram::conditions_have_programs": "the same",
     "mprogram::conditions_have_steps": "the same",
+    "mprogram::parameters_have_programs": "the same",
     "mprogram::programs_have_steps": "the same",
     "mstore::new_files_are_empty": "the same",
     "mstore::tables_are_found": "the same",

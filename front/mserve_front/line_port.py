@@ -100,7 +100,10 @@ class LinePeer:
             raise ValueError("a line without an end") from error
 
     async def tell(self, event: Record) -> None:
-        """Sends a line of JSON."""
+        """Sends a line of JSON. Raises ConnectionError if the connection has ended."""
+        if self._writer.is_closing():
+            # What it is made of may be gone by now.
+            raise ConnectionResetError
         data = json.dumps(event).encode() + b"\n"
         if len(data) < LEAST and not self._writer.transport.get_write_buffer_size():
             # Nothing waits before it, so it does not wait either, and needs no clock.

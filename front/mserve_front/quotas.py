@@ -1,6 +1,6 @@
 # SPDX-License-Identifier: Apache-2.0
-"""What each account takes of the store, of the server's memory and of the journal. One that is over a quota hears so, and has one line a second; others are
-not met by it.
+"""What each account takes of the store, of the server's memory, of the journal and of the audit log. One that is over a quota hears so, and has one line a
+second; others are not met by it.
 
 The server counts neither rows nor memory, so both are seen from beside it. Rows are counted in the store's file, which lacks what the store's log has.
 Memory is what the server grew by while an account had nearly all of its time; what grew while several did is charged to nobody."""
@@ -11,7 +11,7 @@ import contextlib
 import os
 import sqlite3
 import time
-from collections import Counter, deque
+from collections import Counter, defaultdict, deque
 from collections.abc import Callable, Iterable, Mapping
 from pathlib import Path
 from urllib.parse import quote
@@ -22,11 +22,11 @@ from .metrics import family
 from .settings import Limits
 
 # What the quotas are of, as their keys in [limits] name them; and how each is said in words.
-ROWS, MEMORY, JOURNAL = "rows", "memory", "journal"
-WORDS = {ROWS: "rows", MEMORY: "bytes of memory", JOURNAL: "bytes of the journal in 24 hours"}
+ROWS, MEMORY, JOURNAL, AUDIT = "rows", "memory", "journal", "audit"
+WORDS = {ROWS: "rows", MEMORY: "bytes of memory", JOURNAL: "bytes of the journal in 24 hours", AUDIT: "bytes of the audit log in 24 hours"}
 # Seconds of an hour, and how many of them are a day.
 HOUR, HOURS = 3600.0, 24
-# Seconds between two lines of an account that is over a quota.
+# Seconds between two lines of an account that is over a quota, and between two sign-ons of one of its users if it is over one that these count for.
 PAUSE = 1.0
 # Seconds between two counts of rows; and how many times as long as a count took there is none. A file that was written so short a time ago, in
 # nanoseconds, may be written again with no other time.
@@ -127,19 +127,21 @@ class Quotas:
         self.limit(limits)
         self._used, self._told = used, told
         self._next: dict[str, float] = {}
+        # Of each account, when its users may sign on again.
+        self._signed_on: defaultdict[str, dict[str, float]] = defaultdict(dict)
         # Of each account, how many lines it had had at its last count that succeeded, and the stamp of the file at its last count.
         self._lines: dict[str, int] = {}
         self._stamps: dict[str, tuple[int, int] | None] = {}
         self._due = 0.0
         self._freed: dict[str, asyncio.Event] = {}
         self.memory = memory
-        self.day = Day()
+        self.days = {JOURNAL: Day(), AUDIT: Day()}
         self.rows: dict[str, int] = {}
         self.over: dict[str, Over] = {}
 
     def limit(self, limits: Limits) -> None:
         """What an account may have, from the next look on."""
-        self._most = {ROWS: limits.rows, MEMORY: limits.memory, JOURNAL: limits.journal}
+        self._most = {ROWS: limits.rows, MEMORY: limits.memory, JOURNAL: limits.journal, AUDIT: limits.audit}
 
     async def count(self, store: Path) -> None:
         """Counts rows, if it is time, of the accounts that had lines since they were counted, if the file was written since then."""
@@ -158,9 +160,10 @@ class Quotas:
 
     def look(self) -> None:
         """Finds who is over a quota, and tells those for whom that is new, or no more."""
-        self.day.look()
-        found = {ROWS: self.rows, MEMORY: self.memory.grown, JOURNAL: self.day.taken}
-        for account in {*self.rows, *self.memory.grown, *self.day.taken, *self.over}:
+        for day in self.days.values():
+            day.look()
+        found = {ROWS: self.rows, MEMORY: self.memory.grown, **{what: day.taken for what, day in self.days.items()}}
+        for account in set(self.over).union(*found.values()):
             over = {what: (have[account], self._most[what]) for what, have in found.items() if have.get(account, 0) > self._most[what]}
             before = self.over.pop(account, {})
             if over:
@@ -173,6 +176,7 @@ class Quotas:
     def _free(self, account: str) -> None:
         """Lets go on who waits."""
         self._next.pop(account, None)
+        self._signed_on.pop(account, None)
         if (freed := self._freed.pop(account, None)) is not None:
             freed.set()
 
@@ -183,6 +187,16 @@ class Quotas:
         freed = self._freed.setdefault(account, asyncio.Event())
         with contextlib.suppress(TimeoutError):
             await asyncio.wait_for(freed.wait(), at - now)
+
+    def wait(self, account: str, user: str) -> float:
+        """How many seconds a user is to wait before the next sign-on; if that is none, it is noted that they sign on now. Sign-ons take of the journal and of
+        the audit log too. A user waits for their own sign-ons alone, so nobody keeps the others of the account out."""
+        if not self.days.keys() & self.over.get(account, {}).keys():
+            return 0.0
+        now, own = time.monotonic(), self._signed_on[account]
+        if (left := own.get(user, now) - now) <= 0:
+            own[user] = now + PAUSE
+        return max(0.0, left)
 
     def end(self) -> None:
         """Nobody waits any more."""

@@ -4,7 +4,6 @@ from __future__ import annotations
 
 import asyncio
 import contextlib
-import logging
 import resource
 import signal
 import ssl
@@ -22,11 +21,12 @@ from .audit import Audit
 from .certificates import expires, of_certificate
 from .changes import Changes
 from .connection import NoStart
-from .doors import Doors, Made, spare_memory, strict
+from .doors import Doors, Made, quiet, spare_memory, strict
 from .figures import of_disks
 from .libraries import of_libraries
 from .line_port import LinePort
 from .metrics import Metrics
+from .quotas import JOURNAL
 from .server import Server, tell
 from .sessions import Sessions
 from .settings import AT_A_START, BadSettings, Limits, Settings, changed_keys, read_settings, read_toml
@@ -60,7 +60,7 @@ class Service:
         self.metrics.more += [of_libraries, lambda: of_certificate(self._expires), lambda: of_disks(store, settings.audit)]
         self._audit = audit_log(settings, self.metrics)
         self._keeper = keeper_of(settings, self.metrics, self._audit, promoted)
-        self._register = Register(settings.users, settings.users_of_machine)
+        self._register = Register(settings.users, settings.users_of_machine, settings.users_of_gate)
         for user in self._register.users.values():
             if not settings.terminals.get(user.account):
                 raise BadUsers(f"{settings.users}: user {user.name}: {user.account} is no account with terminals in {settings.server_settings}")
@@ -70,7 +70,7 @@ class Service:
         self._server = Server(settings, self.metrics, journal)
         self._sessions = Sessions(settings, self._server, self.metrics, self._audit, self._register, journal)
         if self._keeper is not None:
-            self._keeper.accounts.took = self._sessions.quotas.day.add
+            self._keeper.accounts.took = self._sessions.quotas.days[JOURNAL].add
             self._keeper.answer("change", Changes(settings, self._server, (self._sessions, self._keeper.accounts)).take)
         self._admin = Admin(settings, self._server, self._sessions, self.metrics, self._keeper.behind if self._keeper else list)
         self._stopping = promoted.stopping if promoted else asyncio.Event()
@@ -87,8 +87,8 @@ class Service:
         ending.hear(signal.SIGHUP, self._reload)
         pages = Web(self.settings, self._server, self._sessions, self._signing, self.metrics, self._doors)
         runner = web.AppRunner(pages.application(), handle_signals=False, access_log=None, keepalive_timeout=KEPT, auto_decompress=False,
-                               logger=_quiet("aiohttp.server"))
-        _quiet("asyncio")
+                               logger=quiet("aiohttp.server"))
+        quiet("asyncio")
         await runner.setup()
         try:
             await self._until_stopped(self._begin())
@@ -205,13 +205,6 @@ class Service:
         self._sessions.limit(read_settings(path, self.settings.volatile).limits)
         if later := changed_keys(self._tables, read_toml(path), TAKEN_BY_A_RELOAD):
             tell(f"{path}: {', '.join(later)}: this counts from the next start of the front")
-
-
-def _quiet(name: str) -> logging.Logger:
-    """A logger that is silent: what peers send, and when they leave, is no fault of the front, and may be secret."""
-    made = logging.getLogger(name)
-    made.setLevel(logging.CRITICAL + 1)
-    return made
 
 
 def keeper_of(settings: Settings, metrics: Metrics, audit: Audit, promoted: Promoted | None) -> Keeper | None:

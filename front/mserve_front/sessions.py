@@ -22,11 +22,11 @@ from .faults import HeldBack, NoJournal
 from .lines import Line, LineRefused
 from .metrics import Metrics, family
 from .quotas import COUNTED as COUNTED_ROWS
-from .quotas import Memory, Over as OverQuota, Quotas, in_words, size_of
+from .quotas import AUDIT, Memory, Over as OverQuota, Quotas, in_words, size_of
 from .replies import Answer
 from .server import Server
 from .settings import AT_A_START, Limits, Settings
-from .signing import Wrong
+from .signing import Slowed, Wrong
 from .terminals import NotUp, Terminals
 from .turns import Lost, Unsent
 from .unread import Unread
@@ -49,6 +49,7 @@ COUNTED = 10.0
 UNKNOWN = "the server ended before it replied: the line may have been run or not"
 NOT_NOTED = "the journal cannot be written, so this line was not sent"
 NOT_AUDITED = "the audit log cannot be written, so this line was not sent"
+OFTEN = "the account is over its quota, so each of its users signs on once a second"
 STOPPED = "the service is being stopped, so this line was not sent"
 HELD_BACK = "the line was run, and its reply is held back: the journal cannot be written"
 
@@ -187,10 +188,13 @@ class Sessions:
                 "generation": session.generation, "session": session.generation, **({"text": "utf-8"} if self._settings.in_utf_8 else {})}
 
     async def sign_on(self, user: User, way: str, address: str, proof: str) -> Session:
-        """Gives a user a terminal. Raises `AllInUse`, `NotUp`, `Wrong` if they are no user any more by what they signed on with, or `NoAudit` if the
-        sign-on could not be noted."""
+        """Gives a user a terminal. Raises `AllInUse`, `NotUp`, `Slowed` if they sign on too often for an account that is over its quota, `Wrong` if they are
+        no user any more by what they signed on with, or `NoAudit` if the sign-on could not be noted."""
         if self._stopping:
             raise NotUp("the service is being stopped")
+        if wait := self.quotas.wait(user.account, user.name):
+            self._metrics.sign_ons["slowed"] += 1
+            raise Slowed(wait, OFTEN)
         self._make_room(user, way, 1)
         terminal = await self._terminals.take(user.account)
         try:
@@ -303,7 +307,7 @@ class Sessions:
             return
         told = "null" if code == "none" else json.dumps(code)
         text = f", {packed({'text': data.decode('latin1')})}" if self._settings.texts else ""
-        self._noted[session.account] += self._audit.note_packed("line", f'{session.packed}, "code": {told}{text}')
+        self._took(session.account, self._audit.note_packed("line", f'{session.packed}, "code": {told}{text}'))
 
     def _count_refused(self, session: Session) -> None:
         """Notes how many lines were refused since the last such record."""
@@ -312,10 +316,15 @@ class Sessions:
             session.refused, session.counted = 0, time.monotonic()
 
     def _note(self, event: str, session: Session, **what: object) -> None:
-        self._noted[session.account] += self._audit.note(event, **session.record, **what)
+        self._took(session.account, self._audit.note(event, **session.record, **what))
 
     def _note_later(self, event: str, session: Session, **what: object) -> None:
-        self._noted[session.account] += self._audit.note_later(event, **session.record, **what)
+        self._took(session.account, self._audit.note_later(event, **session.record, **what))
+
+    def _took(self, account: str, size: int) -> None:
+        """Notes what an account takes of the audit log."""
+        self._noted[account] += size
+        self.quotas.days[AUDIT].add(account, size)
 
     async def restarted(self) -> None:
         """Tells all that the server was started again: their variables and locks are gone."""

@@ -40,6 +40,7 @@ class Limits:
     rows: int = 10_000_000
     memory: int = 1_000_000_000
     journal: int = NO_BOUND
+    audit: int = NO_BOUND
 
     def take(self, other: Limits, but: Container[str] = ()) -> None:
         """Takes the values of others, but for some."""
@@ -106,6 +107,7 @@ class Settings:
     in_utf_8: bool = False
     admin: Path | None = None
     users_of_machine: Path | None = None
+    users_of_gate: Path | None = None
 
     @property
     def tls(self) -> bool:
@@ -206,7 +208,7 @@ _LIMITS = {
     "idle": (1, 86_400), "absent": (1, 86_400), "longest": (10, 604_800), "token_idle": (1, 86_400), "sign_on": (1, 600), "slow": (1, 600),
     "heartbeat": (1, 600), "body": (4096, 1 << 24), "reply": (4096, 1 << 28), "connections": (1, 100_000), "connections_of_address": (1, 100_000),
     "unsigned_of_address": (1, 100_000),
-    "sessions_of_user": (1, 9999), "rows": (1, NO_BOUND), "memory": (1_000_000, NO_BOUND), "journal": (1, NO_BOUND),
+    "sessions_of_user": (1, 9999), "rows": (1, NO_BOUND), "memory": (1_000_000, NO_BOUND), "journal": (1, NO_BOUND), "audit": (1, NO_BOUND),
 }
 
 
@@ -253,8 +255,8 @@ def read_settings(path: Path, volatile: bool) -> Settings:
         raise BadSettings(f"{path}: {name}: there is no such table")
     taken = {name: Table(path, name, tables.get(name, {})) for name in TABLES}
     users = taken["users"].needed_file("file")
-    settings = Settings(path=path, users_of_machine=taken["users"].file("machine"), **_server(taken["server"], volatile),
-                        listen=_listen(taken["listen"]), users=users,
+    settings = Settings(path=path, **_server(taken["server"], volatile), listen=_listen(taken["listen"]),
+                        users=users, users_of_machine=taken["users"].file("machine"), users_of_gate=taken["users"].file("gate"),
                         journal=journal_settings(taken["journal"], users.parent), audit=taken["audit"].file("file"), texts=taken["audit"].truth("texts", False),
                         metrics_from=_networks(taken["metrics"]), metrics_token=taken["metrics"].secret("token"),
                         admin=taken["admin"].file("socket"), limits=limits_of(taken["limits"]))

@@ -5,13 +5,19 @@ from __future__ import annotations
 import asyncio
 import contextlib
 import json
+import ssl
 import statistics
 import time
 from collections.abc import AsyncIterator
+from pathlib import Path
+from types import SimpleNamespace
 
 import aiohttp
 import pytest
 from front import PASSWORD, Front, Patience, Person, given_back, in_loop, until
+from mserve_front.line_port import LinePeer
+from mserve_front.settings import Limits
+from mserve_front.unread import Unread
 
 # A line whose reply has some 100,000 bytes.
 LARGE = 'F I=1:1:25 W $J("",4000)'
@@ -218,16 +224,47 @@ async def test_requests_that_are_none_or_too_large(lasting: Front, data: bytes) 
 
 @in_loop()
 async def test_what_peers_send_is_in_no_log(start) -> None:
-    """Keys and tokens of heads that are too long or none; and a flood of such heads writes no log of its own."""
+    """Keys and tokens of heads that are too long or none, or of which the libraries know more than the front; and neither a flood of such heads, nor of
+    connections that break off, writes a log of its own, as the libraries would."""
     front: Front = start()
     secret = "mft_" + "s" * 40
+    heads = [f"{secret} \0\r\n", f"GET /session HTTP/1.1\r\nHost: localhost\r\nCookie: __Host-mfront={secret}; {'x' * 9000}\r\n",
+             f"SECRET /{secret} HTTP/1.1\r\nHost: localhost\r\n", f"GET / HTTP/1.1\r\nHost: localhost\r\nSec-WebSocket-Key1: {secret}\r\n"]
     for number in range(300):
         reader, writer = await asyncio.open_connection("localhost", front.port, ssl=front.context)
-        head = f"GET /session HTTP/1.1\r\nHost: localhost\r\nCookie: __Host-mfront={secret}; {'x' * 9000}\r\n" if number % 2 else f"{secret} \0\r\n"
-        writer.write(f"{head}Authorization: Bearer {secret}\r\n\r\n".encode())
+        writer.write(f"{heads[number % len(heads)]}Authorization: Bearer {secret}\r\n\r\n".encode())
         await closed(reader, 0.0)
         writer.close()
+    async with front.person("cleo") as cleo:
+        for _ in range(30):
+            for _ in range(50):
+                await cleo.send("W 1")
+            # No close, neither of the WebSocket nor of TLS.
+            cleo.socket._response.connection.transport.abort()
+            await cleo.connect()
     assert secret not in front.told() + (front.folder / "audit.log").read_text() and len(front.told().splitlines()) < 10
+    assert "eof_received" not in front.told()
+
+
+@in_loop()
+async def test_an_event_for_a_program_that_has_gone(certificate: tuple[Path, Path]) -> None:
+    """It is lost, whatever is left of the connection."""
+    shown, trusted = ssl.create_default_context(ssl.Purpose.CLIENT_AUTH), ssl.create_default_context(cafile=certificate[0])
+    shown.load_cert_chain(*certificate)
+    come: asyncio.Queue[LinePeer] = asyncio.Queue()
+
+    async def serve(reader: asyncio.StreamReader, writer: asyncio.StreamWriter) -> None:
+        come.put_nowait(LinePeer(reader, writer, Limits(), SimpleNamespace(address="127.0.0.1", more=lambda: None), Unread()))
+    server = await asyncio.start_server(serve, "127.0.0.1", 0, ssl=shown)
+    _, writer = await asyncio.open_connection("127.0.0.1", server.sockets[0].getsockname()[1], ssl=trusted, server_hostname="localhost")
+    peer = await come.get()
+    writer.transport.abort()
+    with contextlib.suppress(ConnectionError):
+        await peer.line()
+    peer.cut()
+    peer._writer.close()
+    await peer.end({"event": "signed-off"})
+    server.close()
 
 
 @in_loop()

@@ -1,5 +1,5 @@
 # SPDX-License-Identifier: Apache-2.0
-"""What one account can take: its quotas of rows and memory, and what the units bound; and an audit log that is full."""
+"""What one account can take: its quotas of rows, memory, the journal and the audit log, and what the units bound; and an audit log that is full."""
 from __future__ import annotations
 
 import asyncio
@@ -9,10 +9,12 @@ import signal
 import time
 from pathlib import Path
 
+import aiohttp
 import pytest
-from front import PASSWORD, Front, Person, in_loop, small_disk, toml, until
+from front import PASSWORD, Front, Patience, Person, in_loop, small_disk, toml, until
 from mserve_front import quotas as quotas_module
-from mserve_front.quotas import HOUR, PAUSE, Day, Memory, Quotas
+from mserve_front.quotas import AUDIT, HOUR, JOURNAL, PAUSE, Day, Memory, Quotas
+from mserve_front.sessions import OFTEN
 from mserve_front.settings import Limits
 from test_programs import Program, new_token, posted
 
@@ -104,6 +106,77 @@ async def test_an_account_over_its_quota_of_the_journal_is_slowed(start) -> None
             return "quota" not in await ada.line("W 1")
         await until(is_free, "an account within its quota")
         assert [list(event["over"]) for event in ada.events] == [["journal"], []]
+
+
+@in_loop()
+async def test_an_account_over_its_quota_of_the_audit_log_is_slowed(start) -> None:
+    """It fills the disk that all sign-ons need no faster than by a line a second, also with texts in the log. A reload gives it more."""
+    front: Front = start(audit={"texts": True}, limits={"audit": 5000})
+    async with front.person("ada") as ada, front.person("cleo") as cleo:
+        # Its text is in the log, so the other account's lines are shorter than the quota by far.
+        assert " bytes of the audit log in 24 hours of 5,000): it has one line a second" in (await fills(ada, f"S X=1 ;{'x' * 200}"))["quota"]
+        await others_go_on(ada, cleo, 10)
+        async with cleo.http.get("/metrics") as response:
+            assert 'mfront_account_over_quota{account="CLINIC",what="audit"} 1\n' in await response.text()
+        await reloads(front, {"limits": {"audit": 10 ** 12}}, "reloaded: limits")
+
+        async def is_free() -> bool:
+            return "quota" not in await ada.line("W 1")
+        await until(is_free, "an account within its quota")
+        assert [list(event["over"]) for event in ada.events] == [["audit"], []]
+
+
+@pytest.mark.parametrize("what", [JOURNAL, AUDIT])
+@in_loop()
+async def test_users_of_an_account_that_fills_a_disk_sign_on_once_a_second(start, what: str) -> None:
+    """By each way in: a sign-on takes of the journal and of the audit log too. Each user has their own turns, and other accounts go on."""
+    front: Front = start(**({"store": "store", "journal": {"folder": "journal"}} if what == JOURNAL else {}), limits={what: 5000})
+    token = await new_token(front, "ben")
+    async with front.person("ada") as ada, front.person("cleo") as cleo:
+        await fills(ada, "S X=1")
+        began, good, answers = time.monotonic(), 0, []
+        while time.monotonic() - began < 2.5 * PAUSE or good < 2:
+            assert time.monotonic() - began < Patience.seconds, "a user who signs on"
+            # At once: however busy the machine is, some come within a second.
+            answers += await asyncio.gather(*(signs_on_as(front, "ben", token) for _ in range(4)))
+            good = [answer[0] for answer in answers].count(200)
+        assert good <= (time.monotonic() - began) / PAUSE + 1
+        refused = [answer for answer in answers if answer[0] != 200]
+        assert refused and set(map(str, refused)) == {str((429, {"error": f"{OFTEN}: wait 1 seconds"}, "1"))}
+        assert OFTEN in "".join(await asyncio.gather(*(refusal_of_lines(front, f"ben {token}") for _ in range(3))))
+        async with front.person().http as http:
+            headers = {"Authorization": f"Bearer {token}", "Origin": front.origin}
+            assert 429 in await asyncio.gather(*(joined(http, headers) for _ in range(3)))
+        # Another user of the account, and one of another account.
+        for name in ("ada", "cleo", "cleo", "cleo"):
+            assert (await signs_on_as(front, name, PASSWORD))[0] == 200
+        assert await cleo.told("W 1") == "1"
+
+
+async def signs_on_as(front: Front, name: str, secret: str) -> tuple[int, dict[str, object], str | None]:
+    """The status of a sign-on by a client of its own, its record and when to come again; it signs off at once."""
+    async with front.person(name).http as http:
+        async with http.post("/signon", json={"user": name, "password": secret}) as response:
+            found = response.status, await response.json(), response.headers.get("Retry-After")
+        if found[0] == 200:
+            async with http.post("/signoff"):
+                pass
+        return found
+
+
+async def refusal_of_lines(front: Front, first: str) -> str:
+    """Why a program at the line port is refused; empty if it is not."""
+    async with Program(front, first) as program:
+        return str(program.record.get("error", ""))
+
+
+async def joined(http: aiohttp.ClientSession, headers: dict[str, str]) -> int:
+    """The status of a program's WebSocket by a token."""
+    try:
+        async with http.ws_connect("/ws", headers=headers):
+            return 101
+    except aiohttp.WSServerHandshakeError as error:
+        return error.status
 
 
 def test_what_is_a_day_old_does_not_count(monkeypatch: pytest.MonkeyPatch) -> None:

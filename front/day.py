@@ -64,12 +64,20 @@ class Kept:
 
     def __init__(self, place: Path) -> None:
         self._place = place
+        self._noted = False
+        self._read()
+
+    def _read(self) -> None:
+        """Reads the lines, and numbers the part that begins after them."""
+        place = self._place
         self.rows: list[Record] = [json.loads(line) for line in place.read_text().splitlines(keepends=True) if line.endswith("\n")] if place.exists() else []
-        # The number of the part that begins now.
         self.part = 1 + max((row["part"] for row in self.rows), default=0)
 
     def add(self, **what: object) -> None:
-        """Notes something of the part that runs."""
+        """Notes something of the part that runs, which keeps its number from then on: before, another one that runs beside it may have taken that."""
+        if not self._noted:
+            self._read()
+            self._noted = True
         row = {"part": self.part, "time": f"{datetime.now(UTC):%Y-%m-%d %H:%M}", **what}
         self.rows.append(row)
         with self._place.open("a") as record:

@@ -9,6 +9,7 @@ import asyncio
 import asyncio.sslproto
 import functools
 import json
+import logging
 import socket
 import ssl
 import time
@@ -42,6 +43,13 @@ OPTIONS = ((socket.IPPROTO_TCP, socket.TCP_NODELAY, 1), (socket.SOL_SOCKET, sock
            (socket.IPPROTO_TCP, socket.TCP_KEEPINTVL, 15), (socket.IPPROTO_TCP, socket.TCP_KEEPCNT, 4),
            # Linux has it, and the types of mypy do not say so.
            (socket.IPPROTO_TCP, socket.TCP_USER_TIMEOUT, 120_000))  # type: ignore[attr-defined]
+
+
+def quiet(name: str) -> logging.Logger:
+    """A logger that is silent from now on: what peers send, and when they leave, is no fault of who serves them, and may be secret."""
+    made = logging.getLogger(name)
+    made.setLevel(logging.CRITICAL + 1)
+    return made
 
 
 def spare_memory() -> None:

@@ -2,7 +2,8 @@
 """The gate of a machine: users of any island connect here, and are handed on to the front of their own, on this machine or over mutual TLS on another.
 
 It reads what names the user (the first line, the sign-on, a cookie or a token), and nothing else of what it carries. Whether the user is who they say
-is for the island's front."""
+is for the island's front. While that cannot be reached, it is for any other one: what it answers tells nobody whether a name exists, and who has the
+right password hears that it is to be tried again."""
 from __future__ import annotations
 
 import asyncio
@@ -10,6 +11,7 @@ import contextlib
 import json
 import ssl
 from collections.abc import Awaitable, Callable
+from itertools import islice
 from typing import NamedTuple
 
 from .doors import CHUNK, Door, Doors
@@ -17,6 +19,7 @@ from .connection import HOST
 from .http_head import END, BadRequest, Head, read_head
 from .islands import Islands
 from .preamble import preamble
+from .signing import AWAY
 from .users import token_hash
 
 # Bytes of a head and of a body, and seconds for them to come, and for a connection to be made.
@@ -28,7 +31,8 @@ CARRIED = {"/": "GET", "/session": "GET", "/ws": "GET", "/health": "GET", "/sign
 PAGE, FIGURES = "/page/", "/metrics/"
 REASONS = {400: "Bad Request", 404: "Not Found", 405: "Method Not Allowed", 413: "Content Too Large", 431: "Request Header Fields Too Large",
            503: "Service Unavailable"}
-AWAY = "it cannot be reached now: try again"
+# Other machines of which the front of an island is tried, where any does: each may take `REACHING`.
+MACHINES = 2
 Streams = tuple[asyncio.StreamReader, asyncio.StreamWriter]
 # What ends a connection, and nothing else.
 BROKEN = (OSError, ValueError, KeyError, TypeError, asyncio.IncompleteReadError, asyncio.LimitOverrunError)
@@ -100,33 +104,38 @@ class Gate:
 
     # ---- where to
 
-    def of_user(self, name: str) -> str:
-        """The island of a user; of a name that nobody has, one that will say that it is wrong."""
+    def of_user(self, name: str) -> str | None:
+        """The island of a user; None of a name that nobody has: any will say that it is wrong."""
         user = self._islands.users.get(name)
-        island = None if user is None else self._islands.of_account.get(user.account)
-        return island or self._any()
+        return None if user is None else self._islands.of_account.get(user.account)
 
-    def of_request(self, request: Request) -> str:
-        """The island of a request: of a cookie, a sign-on or a token, or the one whose figures are wanted; else one that has the page."""
+    def of_request(self, request: Request) -> str | None:
+        """The island of a request: of a cookie, a sign-on or a token, or the one whose figures are wanted; else None: any has the page."""
         head = request.head
         if head.target == "/signon":
             try:
                 return self.of_user(str(json.loads(request.body)["user"]))
             except (ValueError, KeyError, TypeError, RecursionError):
-                return self._any()
+                return None
         secret = head.field("authorization").partition(" ")[2].strip()
         if head.target == "/line" or head.target == "/ws" and secret:
             return self.of_user(self._islands.of_token.get(token_hash(secret), ""))
         named = head.target.removeprefix(FIGURES) if head.target.startswith(FIGURES) else head.cookies().get(COOKIE, "").partition(".")[0]
-        return named if named in self._islands.placed else self._any()
+        return named if named in self._islands.placed else None
 
-    def _any(self) -> str:
-        """An island of this machine, or of another one."""
-        placed = self._islands.placed.values()
-        found = next((island.name for island in placed if island.machine == self._name), None) or next((island.name for island in placed), None)
-        if found is None:
-            raise Away("no island is placed yet")
-        return found
+    def _any(self) -> list[str]:
+        """The islands of this machine, and one of each of some others."""
+        placed = list(self._islands.placed.values())
+        others = {island.machine: island.name for island in placed if island.machine != self._name}
+        return [*(island.name for island in placed if island.machine == self._name), *islice(others.values(), MACHINES)]
+
+    async def connected(self, island: str | None, kind: str, address: str, any_does: bool = False) -> tuple[str, Streams]:
+        """A connection to an island's front, and whose that is: another one's if none is named, or if any does where this one is away. Raises `Away`."""
+        named = [] if island is None else [island]
+        for name in [*named, *(one for one in self._any() if one != island)] if any_does or island is None else named:
+            with contextlib.suppress(Away):
+                return name, await self.reach(name, kind, address)
+        raise Away
 
     async def reach(self, island: str, kind: str, address: str) -> Streams:
         """A connection to an island's front, which knows the user's address. Raises `Away`."""
@@ -176,7 +185,7 @@ class Gate:
             first = await outer.until(b"\n")
         outer.lasts()
         try:
-            inner = await self.reach(self.of_user(first.partition(b" ")[0].decode("utf-8", "replace")), LINES, outer.address)
+            _, inner = await self.connected(self.of_user(first.partition(b" ")[0].decode("utf-8", "replace")), LINES, outer.address, any_does=True)
         except Away as error:
             outer.writer.write(json.dumps({"error": str(error)}).encode() + b"\n")
             return
@@ -197,8 +206,7 @@ class Gate:
             async with asyncio.timeout(COMING):
                 request = await read_request(outer)
             outer.lasts()
-            island = self.of_request(request)
-            inner = await self.reach(island, HTTP, outer.address)
+            island, inner = await self.connected(self.of_request(request), HTTP, outer.address, any_does=request.head.target == "/signon")
         except BadRequest as error:
             outer.writer.write(refusal(error.status, str(error)))
             return

@@ -20,7 +20,7 @@ from mserve_client import ClientError
 from . import ending, fork_server
 from .certificates import expires
 from .control import ControlError
-from .doors import Doors, spare_memory, strict
+from .doors import Doors, quiet, spare_memory, strict
 from .ending import FAILED, USAGE
 from .fork_server import ForkServer
 from .gate import Gate
@@ -206,6 +206,7 @@ async def _serve(read: Callable[[], tuple[Home, Doorway]], starts: ForkServer) -
 async def _served(read: Callable[[], tuple[Home, Doorway]], starts: ForkServer, over: asyncio.Task[None]) -> None:
     home, doorway = read()
     take_files()
+    quiet("asyncio")
     stopping = asyncio.Event()
     for number in (signal.SIGTERM, signal.SIGINT):
         ending.hear(number, stopping.set)

@@ -308,7 +308,7 @@ class Islands:
                   "server": {"program": home.program, "settings": "settings.toml", "store": "store", "text": home.text},
                   "listen": {"port": front.port("http"), "lines_port": front.port("lines"), "origins": list(home.origins), "gate": "gate.secret"},
                   # One machine's file can be changed here; that of several is for who keeps it.
-                  "users": {"file": "users.json"} | ({"machine": str(home.users)} if home.database is None else {}),
+                  "users": {"file": "users.json", "gate": str(home.users)} | ({"machine": str(home.users)} if home.database is None else {}),
                   "audit": {"file": "audit.log", "texts": home.texts},
                   "journal": {"backup": "backup"} | ({"folder": "journal"} if home.database is None else {"database": home.database, "name": front.island}),
                   "metrics": {"token": "metrics.token"}, "admin": {"socket": "admin.socket"},

@@ -30,6 +30,8 @@ PAIR_FREE, NAME_FREE, LONGEST = 3, 50, 60.0
 ADDRESS_FREE, PACED = 20, 1.0
 # Attempts of names that are known go first, but for one in this many.
 KNOWN_FIRST = 3
+# What users hear whose own front cannot be reached by their gate.
+AWAY = "it cannot be reached now: try again"
 
 
 class Wrong(Exception):
@@ -37,6 +39,13 @@ class Wrong(Exception):
 
     def __str__(self) -> str:
         return "wrong name or password"
+
+
+class Elsewhere(Wrong):
+    """The name and the password are those of a user of another front, which a gate cannot reach: otherwise they would not have come here."""
+
+    def __str__(self) -> str:
+        return AWAY
 
 
 class Slowed(Exception):
@@ -83,11 +92,13 @@ class Signing:
         self._timer: asyncio.TimerHandle | None = None
 
     async def by_password(self, name: str, password: str, address: str, tokens: bool = False) -> tuple[User, str]:
-        """The user, and the hash that proves it. Raises `Wrong` or `Slowed`. With `tokens` a token of the user may stand for the password."""
+        """The user, and the hash that proves it. Raises `Wrong`, `Elsewhere` or `Slowed`. With `tokens` a token of the user may stand for the password."""
         place = network_of(address)
         if tokens and password.startswith(TOKEN):
             found = self._register.by_token(password)
             if found is None or found[0].name != name:
+                if self._register.has_elsewhere(name, password):
+                    self._away()
                 self._failed(name, place, address)
             self._metrics.sign_ons["good"] += 1
             return found[0], found[0].tokens[found[1]].hash
@@ -102,6 +113,8 @@ class Signing:
             self._names.failed(name)
             self._failed(name, place, address)
         self._pairs.succeeded(_pair(name, place))
+        if name not in self._register.users:
+            self._away()
         self._note_known(_pair(name, place))
         self._metrics.sign_ons["good"] += 1
         return user, user.hash
@@ -150,6 +163,11 @@ class Signing:
                 known = name if name in self._register.users else None
                 self._audit.note("refused", user=known, **{"from": address}, **({"failures": count} if count > ADDRESS_FREE else {}))
         raise Wrong
+
+    def _away(self) -> NoReturn:
+        """Raises `Elsewhere`."""
+        self._metrics.sign_ons["away"] += 1
+        raise Elsewhere
 
     def _note_known(self, pair: str) -> None:
         self._known[pair] = None

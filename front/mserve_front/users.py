@@ -154,14 +154,30 @@ def _normal(password: str) -> bytes:
     return unicodedata.normalize("NFKC", password).encode("utf-8", "surrogatepass")
 
 
+Stamp = tuple[int, int, int]
+
+
+def stamp_of(path: Path) -> Stamp | None:
+    """What tells a file from what it was before it was written again; None if it is not there."""
+    try:
+        status = path.stat()
+    except OSError:
+        return None
+    return status.st_mtime_ns, status.st_ino, status.st_size
+
+
 class Register:
     """The users of a file as they stand: the file is read again if it changed."""
 
-    def __init__(self, path: Path, machine: Path | None = None) -> None:
-        """`machine` is the file of all users of the machine, where a gate makes this one of it. Raises `BadUsers` as `load` does."""
+    def __init__(self, path: Path, machine: Path | None = None, everybody: Path | None = None) -> None:
+        """`machine` is the file of all users of the machine, where a gate makes this one of it; `everybody` that of all users of a gate, whose sign-ons come
+        here too while their own front cannot be reached. Raises `BadUsers` as `load` does."""
         self._path = path
         self._machine = machine
-        self._seen: tuple[int, int, int] | None = None
+        self._everybody = everybody
+        self._seen: Stamp | None = None
+        self._seen_everybody: Stamp | None = None
+        self._elsewhere: Users = {}
         self.users: Users = {}
         self._tokens: dict[str, tuple[User, str]] = {}
         self._dummies: dict[str, str] = {}
@@ -169,11 +185,7 @@ class Register:
 
     def refresh(self) -> bool:
         """Reads the file again if it changed, and says whether it did. Raises `BadUsers` as `load` does; the users stay as they were then."""
-        try:
-            status = self._path.stat()
-            seen = (status.st_mtime_ns, status.st_ino, status.st_size)
-        except OSError:
-            seen = None
+        seen = stamp_of(self._path)
         if seen == self._seen and seen is not None:
             return False
         self.users = load(self._path)
@@ -187,8 +199,9 @@ class Register:
         return user is not None and user.account == account and (proof == user.hash or any(proof == token.hash for token in user.tokens.values()))
 
     def by_password(self, name: str, password: str) -> User | None:
-        """The user of this name and password. It takes as long for a name that nobody has. It computes: not for the loop's own thread."""
-        user = self.users.get(name)
+        """The user of this name and password, who may be one of another front. It takes as long for a name that nobody has. It computes: not for the loop's own
+        thread."""
+        user = self.users.get(name) or self.elsewhere().get(name)
         hashed = user.hash if user else self._dummy()
         if len(password) > MOST:
             password = ""
@@ -197,6 +210,18 @@ class Register:
         except argon2.exceptions.VerificationError:
             return None
         return user
+
+    def elsewhere(self) -> Users:
+        """All users of the gate, if there is one; those of before while they cannot be read."""
+        if self._everybody is not None and (seen := stamp_of(self._everybody)) is not None and seen != self._seen_everybody:
+            with contextlib.suppress(BadUsers):
+                self._elsewhere, self._seen_everybody = load(self._everybody), seen
+        return self._elsewhere
+
+    def has_elsewhere(self, name: str, token: str) -> bool:
+        """Whether a token is one of a user of another front."""
+        hashed, user = token_hash(token), None if name in self.users else self.elsewhere().get(name)
+        return user is not None and any(hmac.compare_digest(one.hash, hashed) for one in user.tokens.values())
 
     def change(self, name: str, password: str) -> str:
         """Gives a user another password, in the file, and in the machine's before, if there is one, and gives its hash. Raises `BadUsers`. It computes: not

@@ -23,7 +23,7 @@ from .metrics import Metrics
 from .server import Server
 from .sessions import LINES, PAGE, TOKEN, Carried, Over, Session, Sessions
 from .settings import Settings
-from .signing import Signing, Slowed, Wrong
+from .signing import Elsewhere, Signing, Slowed, Wrong
 from .terminals import AllInUse, NotUp
 from .users import BadUsers
 from .web_socket import carry
@@ -234,6 +234,8 @@ class Web:
             if before is not None:
                 self._sessions.sign_off(before, "replaced")
             session = await self._sessions.sign_on(user, PAGE, address, proof)
+        except Elsewhere as error:
+            raise HttpFault(503, str(error), Retry_After="1") from None
         except Wrong as error:
             raise HttpFault(401, str(error)) from None
         except Slowed as error:
@@ -371,6 +373,8 @@ def refusals_of_a_token() -> Iterator[None]:
         yield
     except Wrong:
         raise HttpFault(401, "wrong token", WWW_Authenticate="Bearer") from None
+    except Slowed as error:
+        raise HttpFault(429, str(error), Retry_After=str(error.seconds)) from None
     except (AllInUse, NotUp) as error:
         raise HttpFault(503, str(error), Retry_After="1") from None
     except NoAudit:

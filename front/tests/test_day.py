@@ -31,6 +31,14 @@ def test_parts_are_counted_together(tmp_path: Path) -> None:
         "part 1, files, 2.0 hours of abc: first 100 MB and 50 open files, last 101 MB and 51 open files"]
 
 
+def test_parts_that_run_beside_each_other_have_numbers_of_their_own(tmp_path: Path) -> None:
+    record = tmp_path / "record"
+    parts = [Kept(record) for _ in range(2)]
+    for kept in (*parts, *parts):
+        kept.add(seconds=1)
+    assert [json.loads(line)["part"] for line in record.read_text().splitlines()] == [1, 2, 1, 2]
+
+
 @pytest.mark.long
 def test_a_short_part(tmp_path: Path) -> None:
     record = tmp_path / "record"

@@ -17,13 +17,14 @@ from front import PASSWORD, Front, Patience, in_loop, until, write_users
 from mserve_front import islands as islands_module
 from mserve_front.certificates import expires
 from mserve_front.doors import Doors
-from mserve_front.gate import AWAY, Gate
+from mserve_front.gate import Gate
 from mserve_front.gate_command import Doorway, Peers, contexts
 from mserve_front.gate_page import GatePage
 from mserve_front.islands import Home, IslandFront, Islands
 from mserve_front.placement import HERE, Island, LocalPlacement, Machine
 from mserve_front.preamble import new_secret, preamble, told_by
 from mserve_front.settings import Limits
+from mserve_front.signing import AWAY
 from mserve_front.users import token_hash
 from running import free_port
 
@@ -38,16 +39,16 @@ class Inner:
     """An island's front that keeps what it is sent, and answers each connection the same."""
 
     def __init__(self, answer: bytes) -> None:
-        self.answer, self.connections = answer, []
+        self.answer, self.end, self.connections = answer, b"\r\n\r\n", []
 
     async def serve(self, reader: asyncio.StreamReader, writer: asyncio.StreamWriter) -> None:
         """Answers once a head has come, and keeps all that comes."""
         got = bytearray()
         self.connections.append(got)
         while data := await reader.read(1000):
-            before = b"\r\n\r\n" in got
+            before = self.end in got
             got += data
-            if not before and b"\r\n\r\n" in got:
+            if not before and self.end in got:
                 writer.write(self.answer)
                 if b" 101 " not in self.answer:
                     await self._carried(reader, got)
@@ -153,19 +154,48 @@ async def test_known_paths_alone_are_carried(target: str, status: int) -> None:
 async def test_a_refusal_does_not_say_which_island_is_away(machine: str, state: str) -> None:
     """Whose customer a user is would be told to everybody who knows a name, whatever keeps the island away."""
     async with Running(OK) as gate:
-        gate.islands.placed["secret1"] = SimpleNamespace(name="secret1", machine=machine)
-        gate.islands.machines["two"] = Machine("two", "127.0.0.1", free_port())
-        gate.islands.users["ada"] = SimpleNamespace(account="SECRET")
-        gate.islands.of_account["SECRET"] = "secret1"
-        gate.islands.of_token[token_hash("mft_x")] = "ada"
-        sign_on = json.dumps({"user": "ada", "password": "x"}).encode()
-        for request in (b"POST /signon HTTP/1.1\r\nHost: x\r\nContent-Length: %d\r\n\r\n%b" % (len(sign_on), sign_on),
-                        b"POST /line HTTP/1.1\r\nHost: x\r\nAuthorization: Bearer mft_x\r\nContent-Length: 2\r\n\r\n{}",
+        has_one_away(gate, machine)
+        for request in (b"POST /line HTTP/1.1\r\nHost: x\r\nAuthorization: Bearer mft_x\r\nContent-Length: 2\r\n\r\n{}",
                         b"GET /session HTTP/1.1\r\nHost: x\r\nCookie: __Host-mfront=secret1.x\r\n\r\n"):
             answer = await gate.asks(request)
             assert answer.startswith(b"HTTP/1.1 503") and answer.endswith(json.dumps({"error": AWAY}).encode()) and b"secret" not in answer.lower(), state
-        assert await gate.asks(b"ada x\n", lines=True) == json.dumps({"error": AWAY}).encode() + b"\n"
         assert not gate.inner.connections
+
+
+def has_one_away(gate: Running, machine: str) -> None:
+    """Before the island of a gate there is another one, of a user of the name ada, which is away."""
+    gate.islands.placed = {"secret1": SimpleNamespace(name="secret1", machine=machine), **gate.islands.placed}
+    gate.islands.machines["two"] = Machine("two", "127.0.0.1", free_port())
+    gate.islands.users["ada"] = SimpleNamespace(account="SECRET")
+    gate.islands.of_account["SECRET"] = "secret1"
+    gate.islands.of_token[token_hash("mft_x")] = "ada"
+
+
+def sign_on_of(name: str) -> bytes:
+    """A request to sign on."""
+    body = json.dumps({"user": name, "password": "x"}).encode()
+    return b"POST /signon HTTP/1.1\r\nHost: x\r\nContent-Length: %d\r\n\r\n%b" % (len(body), body)
+
+
+@pytest.mark.parametrize("machine", ["one", "two", "three"])
+@in_loop()
+async def test_a_sign_on_is_for_another_front_while_its_own_is_away(machine: str) -> None:
+    """As one of a name that nobody has: both have the same answer. Who has no island yet finds the page there."""
+    async with Running(OK) as gate:
+        has_one_away(gate, machine)
+        for request in (sign_on_of("ada"), sign_on_of("nobody"), b"GET / HTTP/1.1\r\nHost: x\r\n\r\n"):
+            assert (await gate.asks(request)).startswith(b"HTTP/1.1 200")
+        assert [got.count(b"/signon") for got in gate.inner.connections] == [1, 1, 0] and b'"ada"' in gate.inner.connections[0]
+        gate.inner.end, gate.inner.answer = b" x\n", b'{"error": "wrong"}\n'
+        for name in (b"ada", b"nobody"):
+            assert await gate.asks(name + b" x\n", lines=True) == gate.inner.answer and gate.inner.connections[-1].endswith(name + b" x\n")
+    async with Running(OK) as gate:
+        has_one_away(gate, machine)
+        del gate.islands.placed["island0"]
+        # None is there: then nobody learns more.
+        for name in ("ada", "nobody"):
+            assert (await gate.asks(sign_on_of(name))).startswith(b"HTTP/1.1 503")
+            assert await gate.asks(f"{name} x\n".encode(), lines=True) == json.dumps({"error": AWAY}).encode() + b"\n"
 
 
 @in_loop()

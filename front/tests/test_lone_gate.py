@@ -13,7 +13,7 @@ from pathlib import Path
 from types import SimpleNamespace
 
 import pytest
-from front import COMMAND, PASSWORD, SETTINGS, Patience, in_loop, toml, until, write_users
+from front import COMMAND, PASSWORD, SETTINGS, Patience, Person, in_loop, toml, until, write_users
 from machines import Gate, Program
 from measured import fronts_of
 from mserve_front import fork_server
@@ -21,6 +21,7 @@ from mserve_front.gate_command import _serve, settings_of
 from mserve_front.islands import Home, IslandFront, Islands
 from mserve_front.journal import LogFault
 from mserve_front.placement import BadPlacement, LocalPlacement, Machine
+from mserve_front.signing import AWAY
 from mserve_front.standing import read_standing
 from mserve_front.users import load
 from running import PROGRAM, free_port
@@ -104,6 +105,51 @@ async def test_a_new_customer_comes_with_a_user(gate: Gate) -> None:
     await tim.signed_on()
     assert await tim.told("W 6*7") == "42"
     tim.close()
+
+
+@in_loop()
+async def test_nobody_learns_of_a_name_while_its_island_is_away(gate: Gate) -> None:
+    """Who has the right password hears that the island cannot be reached; with another one it is as if nobody had the name. Other customers have the page,
+    and sign on."""
+    (gate.folder / "new.toml").write_text(NEW)
+    write_users(gate.folder / "users.json", {"ada": "CLINIC", "tim": "NEW"})
+    [front] = fronts_of(gate.process.pid)
+    assert gate.does("place", "NEW", gate.folder / "new.toml", "one")[0] == 0
+    await until(lambda: serving(gate) == 2, "the other front")
+    # With such a journal it does not start again.
+    for path in (gate.folder / "islands" / ISLAND / "journal").iterdir():
+        if path.is_file():
+            path.write_bytes(b"broken\n" * 1000)
+    os.kill(front, signal.SIGKILL)
+    ada, nobody, tim = (Person(gate, name) for name in ("ada", "nobody", "tim"))
+    try:
+        async def is_away() -> bool:
+            return await ada.sign_on() == (503, {"error": AWAY})
+        await until(is_away, "an island that is away", 0.2)
+        assert await ada.sign_on("x") == await nobody.sign_on("x") == (401, {"error": "wrong name or password"})
+        assert (await Program(gate, "ada").sign_on(), await Program(gate, "nobody").sign_on()) == ({"error": AWAY}, {"error": "wrong name or password"})
+        assert (await tim.sign_on())[0] == 200 and serving(gate) == 2
+        async with nobody.http.get("/") as response:
+            assert response.status == 200
+    finally:
+        for person in (ada, nobody, tim):
+            await person.http.close()
+
+
+@in_loop()
+async def test_peers_of_a_gate_write_no_log(gate: Gate) -> None:
+    """Who sends more than is read, and leaves, would have a line of asyncio's for each connection."""
+    before = gate.told()
+    for number in range(30):
+        reader, writer = await asyncio.open_connection(gate.host, gate.ports["http" if number % 2 else "lines"], ssl=gate.context)
+        writer.write(b"x" * 20_000 if number % 2 else b"nobody x\n" * 2_000)
+        await asyncio.sleep(0.05)
+        writer.transport.abort()
+    # The gate has seen to all of them by the time that it answers this one.
+    reader, writer = await asyncio.open_connection(gate.host, gate.ports["http"], ssl=gate.context)
+    writer.write(b"GET /health HTTP/1.1\r\nHost: localhost\r\n\r\n")
+    assert (await reader.read()).startswith(b"HTTP/1.1 200") and gate.told() == before
+    writer.close()
 
 
 @in_loop()

@@ -109,7 +109,8 @@ async def test_a_user_who_signs_on_all_the_time_is_gone_once_removed(start) -> N
 
 @in_loop()
 async def test_another_password_ends_tokens_and_sessions(start) -> None:
-    front: Front = start()
+    # Nobody answers a ping while the command runs, which takes as long as the machine lets it.
+    front: Front = start(limits={"heartbeat": 600})
     token = await new_token(front, "ada")
     async with front.person("ada") as ada, Program(front, f"ada {token}") as program:
         assert program.record["user"] == "ada"

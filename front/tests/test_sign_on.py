@@ -10,9 +10,10 @@ from collections.abc import Iterator
 
 import aiohttp
 import pytest
-from front import PASSWORD, Front, Patience, busy, given_back, in_loop, lines_wait, until, write_users
+from front import PASSWORD, Front, Patience, busy, given_back, in_loop, lines_wait, toml, until, write_users
+from mserve_front.signing import AWAY
 from mserve_front.slowdown import Slowdown, network_of
-from mserve_front.users import HASHER, Register
+from mserve_front.users import HASHER, Register, Token, changed, token_hash
 from test_programs import Program
 from yarl import URL
 
@@ -303,23 +304,57 @@ def test_networks_of_addresses() -> None:
     assert network_of("2001:db8:1:2:3::4") == network_of("2001:db8:1:2:9::1") != network_of("2001:db8:1:3::1")
 
 
+@in_loop()
+async def test_a_user_of_a_front_that_a_gate_cannot_reach(start) -> None:
+    """Their sign-on comes here. Who has the right password, or a token, hears that it is to be tried again, and nobody else learns that the name exists."""
+    front: Front = start()
+    front.stop()
+    everybody = front.folder / "everybody.json"
+    write_users(everybody, {"ada": "CLINIC", "eve": "AWAY"})
+    token = "mft_" + "t" * 43
+    with changed(everybody) as users:
+        users["eve"].tokens["x"] = Token(token_hash(token), "", "")
+    front.tables["users"]["gate"] = str(everybody)
+    (front.folder / "front.toml").write_text(toml(front.tables))
+    front.again()
+
+    async def answers(name: str, secret: str) -> list[object]:
+        async with Program(front, f"{name} {secret}") as program, front.person(name).http as http:
+            async with http.post("/signon", json={"user": name, "password": secret}) as response:
+                return [response.status, await response.json(), response.headers.get("Retry-After"), program.record]
+    wrong, away = {"error": "wrong name or password"}, {"error": AWAY}
+    for secret in ("x", "mft_x", token[:-1]):
+        assert await answers("eve", secret) == await answers("nobody", secret) == [401, wrong, None, wrong]
+    assert await answers("eve", PASSWORD) == await answers("eve", token) == [503, away, "1", away]
+    assert await answers("nobody", token) == [401, wrong, None, wrong] == await answers("ada", token)
+    async with front.person("ada") as ada:
+        assert await ada.told("W 1") == "1"
+    assert {record["user"] for record in front.audit() if record["event"] == "refused"} == {None, "ada"}
+    # The file is read again: a user who is removed there is one no more. While it cannot be read, the users of before are.
+    everybody.write_text("broken")
+    assert (await answers("eve", PASSWORD))[0] == 503
+    write_users(everybody, {})
+    assert (await answers("eve", PASSWORD))[0] == 401
+
+
 @pytest.mark.alone
 def test_unknown_users_take_as_long(tmp_path) -> None:
-    """The same hash is computed for a name that nobody has. The processor's time is compared, since others use the machine."""
+    """The same hash is computed for a name that nobody has, or that another front has. The processor's time is compared, since others use the machine."""
     write_users(tmp_path / "users.json", {})
     users = json.loads((tmp_path / "users.json").read_text())
-    users["users"]["ada"] = {"account": "CLINIC", "hash": HASHER.hash(PASSWORD)}
-    (tmp_path / "users.json").write_text(json.dumps(users))
-    register = Register(tmp_path / "users.json")
+    for name, file in (("ada", "users.json"), ("eve", "everybody.json")):
+        (tmp_path / file).write_text(json.dumps({"users": users["users"] | {name: {"account": "CLINIC", "hash": HASHER.hash(PASSWORD)}}}))
+        (tmp_path / file).chmod(0o600)
+    register = Register(tmp_path / "users.json", everybody=tmp_path / "everybody.json")
     register.by_password("nobody", "x")
-    times: dict[str, list[float]] = {"ada": [], "nobody": []}
+    times: dict[str, list[float]] = {"ada": [], "eve": [], "nobody": []}
     for _ in range(7):
         for name, taken in times.items():
             began = time.process_time()
             assert register.by_password(name, "wrong") is None
             taken.append(time.process_time() - began)
-    known, unknown = (statistics.median(taken) for taken in times.values())
-    assert known > 0.01 and 0.5 < known / unknown < 2
+    medians = [statistics.median(taken) for taken in times.values()]
+    assert min(medians) > 0.01 and max(medians) < 2 * min(medians)
 
 
 @in_loop()

@@ -496,7 +496,7 @@ def test_halt_within_a_function_ends_the_session() -> None:
     assert interpreted(["S B=1", "W 2,$$HF^F(),3", "W $D(A),$D(B)"]) == [Reply(""), Reply("2"), Reply("00")]
 
 
-@pytest.mark.parametrize("line", ["S A($$^P(1))=1", "F I=$$E:1:9 W I", "K A($$E)", "L +^A($$E)", "W A,@A@($$E)", "D N^F(A),@$$E", 'X "W @$$E"'])
+@pytest.mark.parametrize("line", ["W A,@A@($$E)", "S @A@($$E)=1", "K @A@($$E)", "F I=1:@A@($$E) W I", 'X "W @A@($$E)"'])
 def test_no_such_form_before_it_comes(line: str) -> None:
     """By language 1 these are no lines."""
     world = World(content(ONE_ACCOUNT).decode("ascii"), max(OF_LANGUAGE))

@@ -54,6 +54,8 @@ ALARMS = (
     Alarm("mfront_audit_waiting", True, 0, "The audit log cannot be written: nobody signs on, and no line runs.", "Free the disk of the audit log."),
     Alarm("mfront_journal_up", False, 1, "The journal cannot be written: no line runs.", "Free the disk, or bring the database back."),
     Alarm("mfront_journal_room_bytes", False, 1e9, "Less than 1 GB is left for the journal.", "Run mbackup verify and mjournal expire."),
+    Alarm("mfront_journal_spare_bytes", False, 1, "The journal's disk is full: it goes on in the room that was kept for it.", "Free the disk now: mbackup "
+          "verify and mjournal expire, or what else is on it."),
     Alarm("mfront_store_room_bytes", False, 1e9, "Less than 1 GB is left for the store.", "Give its disk more room: lines are answered ZSTORE "
           "once it is full."),
     Alarm("mfront_audit_room_bytes", False, 1e9, "Less than 1 GB is left for the audit log.", "Move old ones away, or give its disk more room."),

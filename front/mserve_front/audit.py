@@ -5,12 +5,19 @@ from __future__ import annotations
 import contextlib
 import json
 import os
+import stat
+import time
 from collections.abc import Mapping
 from datetime import UTC, datetime
 from pathlib import Path
 
+from .kept_room import check_room, give_back, hold
 from .metrics import Metrics
 from .server import Condition
+
+
+# Seconds after which room is looked for again, where none could be kept.
+LOOK = 5.0
 
 
 class NoAudit(Exception):
@@ -19,11 +26,18 @@ class NoAudit(Exception):
 
 class Audit:
     """The log at a path, or none. Each record is handed to the system by one write. Those of what has happened already are kept if they cannot be
-    written; until they are, `check` fails, so that no line runs unnoted."""
+    written; until they are, `check` fails, so that no line runs unnoted. Room of the disk is kept after the log's end: once the disk is full, it goes on
+    there."""
 
-    def __init__(self, path: Path | None, metrics: Metrics) -> None:
-        """Raises OSError if the file cannot be written."""
+    def __init__(self, path: Path | None, metrics: Metrics, spare: int = 0) -> None:
+        """`spare` is how many bytes of the disk are kept. Raises OSError if the file cannot be written."""
         self._path = path
+        self._spare = spare
+        # The log's size, up to which size room is kept for it, and when to look for more.
+        self._size = self._until = 0
+        self._due = 0.0
+        self._short = Condition(f"{path}: no more room is kept for the audit log, as audit.spare wants it: {{}}; it is tried again",
+                                f"{path}: room is kept for the audit log again")
         self._metrics = metrics
         self._kept: list[bytes] = []
         self._fault = Condition(f"{path}: the audit log cannot be written: {{}}: nobody signs on, and no line goes on until it can",
@@ -35,8 +49,29 @@ class Audit:
         """Opens the file again, after it was moved away."""
         if self._path is not None:
             descriptor = os.open(self._path, os.O_WRONLY | os.O_APPEND | os.O_CREAT | os.O_CLOEXEC, 0o600)
+            if self._descriptor >= 0 and self._until:
+                with contextlib.suppress(OSError):
+                    give_back(self._descriptor)
             self.close()
             self._descriptor = descriptor
+            found = os.fstat(descriptor)
+            self._size = self._until = found.st_size
+            if stat.S_ISREG(found.st_mode) and self._spare:
+                self._keep_room(self._path.parent)
+
+    def _keep_room(self, folder: Path) -> None:
+        """Keeps room after the log's end; if that cannot be, the operator hears so, and it is tried again. What was kept before
+        stays."""
+        self._due = time.monotonic() + LOOK
+        try:
+            # As much again is left to others, so that this is not what fills the disk.
+            check_room(folder, self._size + self._spare - self._until, self._spare)
+            hold(self._descriptor, self._spare)
+        except OSError as error:
+            self._short.comes(error)
+            return
+        self._until = self._size + self._spare
+        self._short.goes()
 
     def close(self) -> None:
         """Closes the file."""
@@ -101,6 +136,9 @@ class Audit:
             self._metrics.audit_faults += 1
             self._fault.comes(error)
             raise NoAudit(str(error)) from error
+        self._size += len(data)
+        if self._path is not None and self._size + self._spare // 2 > self._until and time.monotonic() >= self._due:
+            self._keep_room(self._path.parent)
 
 
 def packed(what: Mapping[str, object]) -> str:

@@ -12,6 +12,7 @@ from collections import Counter, defaultdict
 from collections.abc import Callable, Mapping, Sequence
 from pathlib import Path
 
+from .kept_room import kept_in
 from .libraries import REPLACED, of_libraries
 from .metrics import SPAN, family, histogram
 
@@ -74,13 +75,17 @@ def _labelled(values: Mapping[str, float]) -> dict[str, float]:
     return {f'account="{account}"': value for account, value in sorted(values.items())}
 
 
-def of_journal(open_lines: int, waiting: int, faulty: float, folder: Path | None) -> list[str]:
-    """Figures of a journal: lines without a reply, what waits for the disk, for how many seconds it cannot be written, and the room of its disk."""
+def of_journal(open_lines: int, waiting: int, faulty: float, folder: Path | None, spare: int = 0) -> list[str]:
+    """Figures of a journal: lines without a reply, what waits for the disk, for how many seconds it cannot be written, the room of its disk, and what is kept
+    of it for when it is full, if any is to be."""
     lines = family("mfront_journal_open_lines", "gauge", "Lines in the journal that have no reply there yet.", {"": open_lines})
     lines += family("mfront_journal_waiting", "gauge", "Lines and replies that wait for the journal.", {"": waiting})
     lines += family("mfront_journal_fault_seconds", "gauge", "For how long the journal cannot be written; 0 if it can.", {"": faulty})
     if folder is not None:
         lines += family("mfront_journal_room_bytes", "gauge", "Bytes that are free on the journal's disk.", _room(folder))
+        if spare:
+            lines += family("mfront_journal_spare_bytes", "gauge", "Bytes that are kept for the journal for when its disk is full; 0 if it is in them.",
+                            {"": kept_in(folder)})
     return lines
 
 

@@ -54,6 +54,10 @@ class Tail:
 class Log(Protocol):
     """What keeps flushes. Its calls wait for the disk or the network, and are made from one thread."""
 
+    @property
+    def in_spare(self) -> bool:
+        """Whether the disk is full, and it goes on in the room that was kept for that."""
+
     def take(self, force: bool = False) -> Tail:
         """Takes the journal for this process, with `force` from another one, and gives its end. Raises `LogTaken`, `LogFault` or `BadJournal`."""
 
@@ -193,6 +197,11 @@ class Journal:
         self.sent, self.before = self.next - 1, tail.writer
         if tail.told:
             self._tell(tail.told)
+
+    @property
+    def in_spare(self) -> bool:
+        """Whether the disk is full, and the journal goes on in the room that was kept for that."""
+        return self._log.in_spare
 
     @property
     def waiting(self) -> int:

@@ -1,6 +1,7 @@
 # SPDX-License-Identifier: Apache-2.0
 """A journal in a folder of files. Each file begins with a mark and has flushes; its name is the number of its first one. Nothing is ever written over: a
-flush that failed, or that a crash tore, is left where it is, and the next file begins with the flush of its number."""
+flush that failed, or that a crash tore, is left where it is, and the next file begins with the flush of its number. Once the disk is full, the next one is
+a spare file, whose room was kept for that."""
 from __future__ import annotations
 
 import contextlib
@@ -9,18 +10,22 @@ import os
 import re
 import secrets
 import time
+from collections.abc import Callable
 from io import FileIO
 from pathlib import Path
 
 from .faults import TAKEN
 from .folders import sync_folder
 from .journal import LogFault, LogTaken, Tail
+from .kept_room import FULL, Spare, give_back
 from .records import HEAD_SIZE, BadJournal, Flush, Torn, body_size, read_flush
 from .standbys import FORGOTTEN
 from .witness import JournalHead, Reached, lost, reached_in
 
 MARK = b"mfront1\n"
 READ = 1 << 20
+# Seconds after which room is looked for again, where none could be kept.
+LOOK = 5.0
 # What a standby says of itself, beside these files, and how long it is at most.
 WORDS, LONGEST_WORDS = "standby-", 100
 # The number of the first flush, and of files that begin with the same one which of them it is.
@@ -70,10 +75,16 @@ def _is_marked(path: Path, data: bytes) -> bool:
 class FileLog:
     """The journal in a folder, as its one writer has it."""
 
-    def __init__(self, folder: Path, roll: int) -> None:
-        """`roll` is the size after which the next file is begun."""
+    def __init__(self, folder: Path, roll: int, kept: int = 0, tell: Callable[[str], None] = lambda text: None) -> None:
+        """`roll` is the size after which the next file is begun, `kept` how much of the disk is kept for when it is full; `tell` is called with what the
+        operator is to know."""
         self._folder = folder
         self._roll = roll
+        self._tell = tell
+        self._spare = Spare(folder, kept)
+        # Whether the file that is written was the spare one; whether the operator was told that there is none; and when to look for its room again.
+        self._was_spare = self._told = False
+        self._due = 0.0
         self._lock = -1
         self._descriptor = -1
         self._path = folder
@@ -91,6 +102,8 @@ class FileLog:
                 self._folder.mkdir(mode=0o700)
                 sync_folder(self._folder.parent)
             self._lock = _locked(self._folder / "lock", force)
+            own = 0 if force else self._give_back()
+            self._spare.lend()
             self._head.take(force)
         except BlockingIOError:
             self.close()
@@ -101,24 +114,71 @@ class FileLog:
         tail = tail_of(self._folder, not force)
         self._last = tail.sequence
         self._head.reached(Reached(tail.journal, tail.sequence, tail.next, tail.answered, tail.time))
+        self._keep_room(own)
         return tail
+
+    @property
+    def in_spare(self) -> bool:
+        """Whether the file that is written was the spare one, and there is no other yet."""
+        return self._was_spare and self._spare.wanted
 
     def append(self, flush: Flush) -> None:
         """Writes a flush, and returns once it is on the disk. One that another front's taking overtakes may be there, and `LogTaken` says so."""
+        data = flush.packed()
         try:
             self._hold(again=True)
-            if self._descriptor < 0 or self._size >= self._roll:
-                self._begin(flush.sequence)
-            data, self._whole = flush.packed(), False
-            self._write(data)
-            self._whole = True
-            os.fdatasync(self._descriptor)
+            try:
+                self._put(flush.sequence, data)
+            except OSError as error:
+                if error.errno not in FULL or not self._spare.there:
+                    raise
+                self._tell(f"{self._folder}: the disk is full: the journal goes on in the room that was kept for it")
+                self._put_in_spare(flush.sequence, data)
         except OSError as error:
             raise LogFault(f"{self._path}: {error.strerror}") from error
         self._size += len(data)
         self._last = flush.sequence
         self._head.reached(flush)
+        if self._spare.wanted and time.monotonic() >= self._due:
+            self._keep_room()
         self._hold()
+
+    def _put(self, sequence: int, data: bytes) -> None:
+        """Writes a flush, in a new file if it is time. One that was the spare file goes on until there is another one: its room would be anybody's."""
+        if self._descriptor < 0 or self._size >= self._roll and not self.in_spare:
+            self._begin(sequence)
+        self._whole = False
+        self._write(data)
+        self._whole = True
+        os.fdatasync(self._descriptor)
+
+    def _put_in_spare(self, sequence: int, data: bytes) -> None:
+        """Writes a flush that found the disk full: the spare file is the next one."""
+        self._told = True
+        self.mend()
+        self._begin(sequence, spare=True)
+        self._put(sequence, data)
+
+    def _keep_room(self, own: int = 0) -> None:
+        """Keeps room for when the disk is full; if that cannot be, the operator hears so once, and it is tried again."""
+        self._due = time.monotonic() + LOOK
+        try:
+            self._spare.keep(own)
+        except OSError as error:
+            if not self._told:
+                self._tell(f"{self._folder}: no room is kept for the journal, as journal.spare wants it: {error.strerror}; it is tried again")
+            self._told = True
+            return
+        if self._told and self._spare.there:
+            self._tell(f"{self._folder}: room is kept for the journal again")
+            self._told = False
+
+    def _give_back(self) -> int:
+        """Gives back what the last file keeps after its end, if who wrote it was killed in what was the spare one, and says how many bytes that were."""
+        for _, path in files_of(self._folder)[-1:]:
+            with path.open("ab") as file:
+                return give_back(file.fileno())
+        return 0
 
     def _hold(self, again: bool = False) -> None:
         """Raises `LogTaken` if another front has taken the journal."""
@@ -149,13 +209,14 @@ class FileLog:
     def abandon(self) -> None:
         """A disk answers some time."""
 
-    def _begin(self, sequence: int) -> None:
-        """Begins a file, which is in its folder durably before it has a flush."""
+    def _begin(self, sequence: int, spare: bool = False) -> None:
+        """Begins a file, which is in its folder durably before it has a flush; `spare`: the spare one becomes it."""
         self._leave()
         same = [order_of(path)[1] for begins, path in files_of(self._folder) if begins == sequence]
         self._path = self._folder / f"{sequence:020d}{f'-{max(same) + 1}' if same else ''}.journal"
-        self._descriptor = os.open(self._path, os.O_WRONLY | os.O_CREAT | os.O_EXCL | os.O_CLOEXEC, 0o600)
-        self._size, self._whole = 0, False
+        self._descriptor = (self._spare.becomes(self._path) if spare else
+                            os.open(self._path, os.O_WRONLY | os.O_CREAT | os.O_EXCL | os.O_CLOEXEC, 0o600))
+        self._size, self._whole, self._was_spare = 0, False, spare
         self._write(MARK)
         self._size = len(MARK)
         sync_folder(self._folder)
@@ -167,8 +228,11 @@ class FileLog:
 
     def _leave(self) -> None:
         if self._descriptor >= 0:
+            if self._was_spare:
+                with contextlib.suppress(OSError):
+                    give_back(self._descriptor)
             os.close(self._descriptor)
-            self._descriptor = -1
+            self._descriptor, self._was_spare = -1, False
 
 
 def _locked(path: Path, force: bool) -> int:

@@ -178,6 +178,9 @@ def flush_of(name: str, sequence: int, data: bytes) -> Flush:
 class TableLog:
     """The journal in a table, as its one writer has it."""
 
+    # The database's disk is not the front's.
+    in_spare = False
+
     def __init__(self, place: str, name: str) -> None:
         self._place = place
         self._name = name

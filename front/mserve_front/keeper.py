@@ -68,7 +68,7 @@ class Keeper:
         self._known = None if promoted is None or promoted.whole else promoted.line
         self._first = promoted is not None and promoted.whole
         self._control = Control(settings.journal.control, {"status": self._status, "snapshot": self._snapshot})
-        self.journal = Journal(writer_of(settings.journal), metrics, tell) if promoted is None else promoted.journal
+        self.journal = Journal(writer_of(settings.journal, tell), metrics, tell) if promoted is None else promoted.journal
         if promoted is not None:
             promoted.journal.count_in(metrics)
         self.standbys = Standbys()
@@ -222,7 +222,7 @@ class Keeper:
         """Figures of the journal, and of the backups."""
         journal, kept = self.journal, self._settings.journal
         faulty = 0.0 if journal.fault is None else time.monotonic() - journal.faulty
-        lines = of_journal(journal.next - 1 - journal.answered, journal.waiting, faulty, kept.folder) + figures_of(self.behind())
+        lines = of_journal(journal.next - 1 - journal.answered, journal.waiting, faulty, kept.folder, kept.spare) + figures_of(self.behind())
         return lines if kept.backup is None else lines + of_backup(kept.backup)
 
     async def _status(self, _: dict[str, object]) -> Answered:

@@ -2,6 +2,7 @@
 """The journal that the settings name: in a folder, or in a table of PostgreSQL."""
 from __future__ import annotations
 
+from collections.abc import Callable
 from typing import Protocol
 
 from . import journal_file
@@ -23,10 +24,10 @@ class Reader(Protocol):
         """Leaves the journal."""
 
 
-def writer_of(settings: JournalSettings) -> Log:
-    """What writes the journal."""
+def writer_of(settings: JournalSettings, tell: Callable[[str], None] = lambda text: None) -> Log:
+    """What writes the journal; `tell` is called with what the operator is to know of its disk."""
     if settings.folder is not None:
-        return journal_file.FileLog(settings.folder, settings.roll)
+        return journal_file.FileLog(settings.folder, settings.roll, settings.spare, tell)
     # Not above: it needs a package that a journal in a folder does without.
     from .journal_table import TableLog
     return TableLog(str(settings.database), settings.name)

@@ -1,6 +1,6 @@
 # SPDX-License-Identifier: Apache-2.0
 """What each account takes of the store, of the server's memory, of the journal and of the audit log. One that is over a quota hears so, and has one line a
-second; others are not met by it.
+second; others are not met by it. Once the disk is full, so has one that has taken more than its share of the room that is kept for the journal.
 
 The server counts neither rows nor memory, so both are seen from beside it. Rows are counted in the store's file, which lacks what the store's log has.
 Memory is what the server grew by while an account had nearly all of its time; what grew while several did is charged to nobody."""
@@ -22,8 +22,11 @@ from .metrics import family
 from .settings import Limits
 
 # What the quotas are of, as their keys in [limits] name them; and how each is said in words.
-ROWS, MEMORY, JOURNAL, AUDIT = "rows", "memory", "journal", "audit"
-WORDS = {ROWS: "rows", MEMORY: "bytes of memory", JOURNAL: "bytes of the journal in 24 hours", AUDIT: "bytes of the audit log in 24 hours"}
+ROWS, MEMORY, JOURNAL, AUDIT, SPARE = "rows", "memory", "journal", "audit", "spare"
+WORDS = {ROWS: "rows", MEMORY: "bytes of memory", JOURNAL: "bytes of the journal in 24 hours", AUDIT: "bytes of the audit log in 24 hours",
+         SPARE: "bytes of the room that is left now that the disk is full"}
+# Those to which sign-ons count too.
+OF_DISKS = {JOURNAL, AUDIT, SPARE}
 # Seconds of an hour, and how many of them are a day.
 HOUR, HOURS = 3600.0, 24
 # Seconds between two lines of an account that is over a quota, and between two sign-ons of one of its users if it is over one that these count for.
@@ -125,6 +128,10 @@ class Quotas:
     def __init__(self, limits: Limits, memory: Memory, used: Used, told: Callable[[str, Over], None]) -> None:
         """`told` is called with an account, and what it is over, each time that this is another."""
         self.limit(limits)
+        # What an account may take of the room that is kept for the journal, and whether that is in it.
+        self.share = 0
+        self.in_spare: Callable[[], bool] = lambda: False
+        self._spare: Counter[str] = Counter()
         self._used, self._told = used, told
         self._next: dict[str, float] = {}
         # Of each account, when its users may sign on again.
@@ -142,6 +149,12 @@ class Quotas:
     def limit(self, limits: Limits) -> None:
         """What an account may have, from the next look on."""
         self._most = {ROWS: limits.rows, MEMORY: limits.memory, JOURNAL: limits.journal, AUDIT: limits.audit}
+
+    def took(self, account: str, more: int) -> None:
+        """Notes what an account takes of the journal."""
+        self.days[JOURNAL].add(account, more)
+        if self.in_spare():
+            self._spare[account] += more
 
     async def count(self, store: Path) -> None:
         """Counts rows, if it is time, of the accounts that had lines since they were counted, if the file was written since then."""
@@ -162,9 +175,12 @@ class Quotas:
         """Finds who is over a quota, and tells those for whom that is new, or no more."""
         for day in self.days.values():
             day.look()
-        found = {ROWS: self.rows, MEMORY: self.memory.grown, **{what: day.taken for what, day in self.days.items()}}
+        if not self.in_spare():
+            self._spare.clear()
+        most = self._most | {SPARE: self.share}
+        found = {ROWS: self.rows, MEMORY: self.memory.grown, SPARE: self._spare, **{what: day.taken for what, day in self.days.items()}}
         for account in set(self.over).union(*found.values()):
-            over = {what: (have[account], self._most[what]) for what, have in found.items() if have.get(account, 0) > self._most[what]}
+            over = {what: (have[account], most[what]) for what, have in found.items() if have.get(account, 0) > most[what]}
             before = self.over.pop(account, {})
             if over:
                 self.over[account] = over
@@ -191,7 +207,7 @@ class Quotas:
     def wait(self, account: str, user: str) -> float:
         """How many seconds a user is to wait before the next sign-on; if that is none, it is noted that they sign on now. Sign-ons take of the journal and of
         the audit log too. A user waits for their own sign-ons alone, so nobody keeps the others of the account out."""
-        if not self.days.keys() & self.over.get(account, {}).keys():
+        if not OF_DISKS & self.over.get(account, {}).keys():
             return 0.0
         now, own = time.monotonic(), self._signed_on[account]
         if (left := own.get(user, now) - now) <= 0:

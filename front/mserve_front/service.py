@@ -26,7 +26,6 @@ from .figures import of_disks
 from .libraries import of_libraries
 from .line_port import LinePort
 from .metrics import Metrics
-from .quotas import JOURNAL
 from .server import Server, tell
 from .sessions import Sessions
 from .settings import AT_A_START, BadSettings, Limits, Settings, changed_keys, read_settings, read_toml
@@ -70,11 +69,18 @@ class Service:
         self._server = Server(settings, self.metrics, journal)
         self._sessions = Sessions(settings, self._server, self.metrics, self._audit, self._register, journal)
         if self._keeper is not None:
-            self._keeper.accounts.took = self._sessions.quotas.days[JOURNAL].add
+            self._shares_room(self._keeper, settings)
             self._keeper.answer("change", Changes(settings, self._server, (self._sessions, self._keeper.accounts)).take)
         self._admin = Admin(settings, self._server, self._sessions, self.metrics, self._keeper.behind if self._keeper else list)
         self._stopping = promoted.stopping if promoted else asyncio.Event()
         self._why = "stopping"
+
+    def _shares_room(self, keeper: Keeper, settings: Settings) -> None:
+        """Has accounts share the room that is kept for the journal, so that none has all of it: together they have half of it before each is slowed."""
+        quotas = self._sessions.quotas
+        quotas.share = settings.journal.spare // (2 * max(1, len(settings.terminals)))
+        quotas.in_spare = lambda: keeper.journal.in_spare
+        keeper.accounts.took = quotas.took
 
     async def run(self) -> None:
         """Serves until SIGTERM, SIGINT or SIGUSR1. Raises `NoStart` if the server does not start, and OSError if a port is taken."""
@@ -247,6 +253,6 @@ def load_certificate(context: ssl.SSLContext, settings: Settings) -> None:
 def audit_log(settings: Settings, metrics: Metrics) -> Audit:
     """The audit log. Raises `BadSettings` if it cannot be written."""
     try:
-        return Audit(settings.audit, metrics)
+        return Audit(settings.audit, metrics, settings.audit_spare)
     except OSError as error:
         raise BadSettings(f"{settings.path}: audit.file: {settings.audit}: {error.strerror}") from error

@@ -18,6 +18,8 @@ class BadSettings(Exception):
 
 # The most that a quota may be, which is none.
 NO_BOUND = 1 << 48
+# Bytes of a disk that are kept for a journal, and for an audit log, for when it is full.
+SPARE = 16_777_216
 
 
 @dataclass(slots=True)
@@ -55,8 +57,8 @@ AT_A_START = ("body", "reply")
 
 @dataclass(frozen=True, slots=True)
 class JournalSettings:
-    """Where the journal is: a folder of files, each of `roll` bytes or a little more, or a table of a database, where it has a name; the socket
-    for operators; and the folder of snapshots, of which the figures tell."""
+    """Where the journal is: a folder of files, each of `roll` bytes or a little more, where `spare` bytes of the disk are kept for when it is full, or a table
+    of a database, where it has a name; the socket for operators; and the folder of snapshots, of which the figures tell."""
 
     folder: Path | None = None
     database: str | None = None
@@ -64,6 +66,7 @@ class JournalSettings:
     roll: int = 16_777_216
     control: Path = Path("mfront.control")
     backup: Path | None = None
+    spare: int = SPARE
 
     @property
     def kept(self) -> bool:
@@ -108,6 +111,7 @@ class Settings:
     admin: Path | None = None
     users_of_machine: Path | None = None
     users_of_gate: Path | None = None
+    audit_spare: int = SPARE
 
     @property
     def tls(self) -> bool:
@@ -258,6 +262,7 @@ def read_settings(path: Path, volatile: bool) -> Settings:
     settings = Settings(path=path, **_server(taken["server"], volatile), listen=_listen(taken["listen"]),
                         users=users, users_of_machine=taken["users"].file("machine"), users_of_gate=taken["users"].file("gate"),
                         journal=journal_settings(taken["journal"], users.parent), audit=taken["audit"].file("file"), texts=taken["audit"].truth("texts", False),
+                        audit_spare=taken["audit"].whole("spare", 0, 1 << 40, SPARE),
                         metrics_from=_networks(taken["metrics"]), metrics_token=taken["metrics"].secret("token"),
                         admin=taken["admin"].file("socket"), limits=limits_of(taken["limits"]))
     for table in taken.values():
@@ -352,7 +357,7 @@ def journal_settings(table: Table, folder: Path) -> JournalSettings:
     """Where the journal is; the socket is in a folder unless it is named."""
     roll = table.whole("roll", 4096, 1 << 40, JournalSettings().roll)
     found = JournalSettings(table.file("folder"), table.text("database"), table.text("name", "main"), roll, table.file("control", folder / "mfront.control"),
-                            table.file("backup"))
+                            table.file("backup"), table.whole("spare", 0, 1 << 40, SPARE))
     if found.folder is not None and found.database is not None:
         raise table.fault("database", "is not for a journal that is in a folder: give one of the two")
     return found

@@ -420,7 +420,7 @@ class Standby:
     async def _taken(self, wanted: asyncio.Future[Answered]) -> Promoted | None:
         """Takes the journal, and runs what was answered. None if another front has it, something would be lost, or a stop has come."""
         began = time.monotonic()
-        journal = Journal(writer_of(self._settings.journal), Metrics(), tell)
+        journal = Journal(writer_of(self._settings.journal, tell), Metrics(), tell)
         try:
             lost = await self._ready(journal)
         except (Stopped, BadJournal, ControlError, LogTaken, LogFault, NoStart) as error:

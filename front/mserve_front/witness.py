@@ -7,6 +7,7 @@ such lines changed is in the store's log (`store_log`)."""
 from __future__ import annotations
 
 import contextlib
+import errno
 import json
 import os
 import secrets
@@ -214,13 +215,15 @@ class JournalHead:
         self._apart: ThreadPoolExecutor | None = None
 
     def take(self, force: bool) -> None:
-        """Takes the journal. With `force` what was there is not believed. Raises OSError."""
+        """Takes the journal. With `force` what was there is not believed. Raises OSError, and leaves it then: how far it went is not to be lost."""
         before = read_note(self._path) or {}
         self._epoch = int(str(before.get("epoch", 0))) + 1
         self._note.close()
         self._note.path.unlink(missing_ok=True)
         self._note.write(json.dumps(({} if force else before) | {"epoch": self._epoch}).encode())
         self._note.sync()
+        if read_note(self._note.path) is None:
+            raise OSError(errno.ENOSPC, os.strerror(errno.ENOSPC))
         self._inode = self._note.path.stat().st_ino
         self._note.path.replace(self._path)
         sync_folder(self._path.parent)

@@ -14,15 +14,17 @@ import running
 Starter = Callable[..., front.Front]
 
 
-def pytest_configure() -> None:
-    """Ends the run if there is no program to test."""
+def pytest_configure(config: pytest.Config) -> None:
+    """Takes the patience that is given, and ends the run if there is no program to test."""
+    front.Patience.seconds = config.getoption("--patience")
     if not os.path.exists(running.PROGRAM):
         pytest.exit("front/tests: there is no program: run ./mserve --help, or name one by the variable MSERVE", returncode=3)
 
 
 def pytest_addoption(parser: pytest.Parser) -> None:
-    """`--count N`: tests that draw their cases draw N times as many."""
+    """`--count N`: tests that draw their cases draw N times as many. `--patience S`: something is missed after S seconds."""
     parser.addoption("--count", type=int, default=1, metavar="N", help="draw N times as many cases")
+    parser.addoption("--patience", type=float, default=front.PATIENT, metavar="S", help=f"miss something after so many seconds (default {front.PATIENT:.0f})")
 
 
 @pytest.fixture(scope="session")

@@ -36,19 +36,22 @@ CHEAP = argon2.PasswordHasher(time_cost=1, memory_cost=64, parallelism=1)
 Record = dict[str, Any]
 
 
+PATIENT = 60.0
+
+
 class Patience:
     """Seconds after which a wait has failed. Long runs on a machine that has other work have more."""
 
-    seconds = 60.0
+    seconds = PATIENT
 
 
 def in_loop(seconds: float = 400) -> Callable[[Callable[..., Awaitable[None]]], Callable[..., None]]:
-    """Runs a test that awaits, for so long at most: what hangs is to end, and what a busy machine delays is not."""
+    """Runs a test that awaits, for so long at most, or longer if more patience is given: what hangs is to end, and what a busy machine delays is not."""
     def made(test: Callable[..., Awaitable[None]]) -> Callable[..., None]:
         @functools.wraps(test)
         def run(*given: object, **named: object) -> None:
             async def bounded() -> None:
-                async with asyncio.timeout(seconds):
+                async with asyncio.timeout(seconds * Patience.seconds / PATIENT):
                     await test(*given, **named)
             asyncio.run(bounded())
         return run

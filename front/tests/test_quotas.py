@@ -24,29 +24,30 @@ VARIABLES, ROWS = 'F I=1:1:5000 S N=$G(N)+1,A(N)=$J("",4000)', 'F I=1:1:100 S N=
 MEMORY, FILE = 1_500_000_000, 20_000_000
 
 
-async def fills(person: Person, line: str) -> dict[str, object]:
-    """Sends a line again and again, until its account is over a quota, and gives the reply that says so."""
+async def fills(person: Person, line: str, pause: float = 0.1) -> dict[str, object]:
+    """Sends a line again and again, until its account is over a quota, and gives the reply that says so. What is taken is looked at once a second."""
     found: list[dict[str, object]] = []
 
     async def is_over() -> bool:
         found.append(await person.line(line))
         return "quota" in found[-1]
-    await until(is_over, "an account that is over its quota", 0.1)
+    await until(is_over, "an account that is over its quota", pause)
     return found[-1]
 
 
 async def others_go_on(slow: Person, other: Person, most: int = 1 << 30) -> None:
-    """One line a second of an account that is over its quota, and any number of another one's, up to what is given."""
+    """One line a second of an account that is over its quota, and any number of another one's, up to what is given: no reply says that it is slowed."""
     async def lines() -> float:
         began = time.monotonic()
         for _ in range(4):
             assert "quota" in await slow.line("W 1")
         return time.monotonic() - began
-    slowed, count = asyncio.create_task(lines()), 0
-    while not slowed.done() and count < most:
-        assert await other.line(f"W {count}") == {"output": [], "rest": str(count), "code": None}
-        count += 1
-    assert await slowed > 2.5 * PAUSE and count > 8 and not other.events
+    slowed, waits = asyncio.create_task(lines()), []
+    while len(waits) < most and (len(waits) < 9 or not slowed.done()):
+        began = time.monotonic()
+        assert await other.line(f"W {len(waits)}") == {"output": [], "rest": str(len(waits)), "code": None}
+        waits.append(time.monotonic() - began)
+    assert await slowed > 2.5 * PAUSE and min(waits) < PAUSE / 2 and not other.events
 
 
 @pytest.mark.long

@@ -33,7 +33,7 @@ def missed(what: str) -> None:
 
 def made(folder: Path) -> Path:
     """The package, made in a folder."""
-    done = subprocess.run([PYTHON, MAKE, "--to", folder], capture_output=True, text=True, timeout=120)
+    done = subprocess.run([PYTHON, MAKE, "--to", folder], capture_output=True, text=True, timeout=LONGEST)
     assert (done.returncode, done.stderr) == (0, ""), done.stderr
     return Path(done.stdout.strip())
 

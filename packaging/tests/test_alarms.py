@@ -27,6 +27,7 @@ ALARMS: dict[str, tuple[dict[str, str], dict[str, str]]] = {
     "MserveJournalDown": ({"mfront_journal_up": "0x200"}, {"mfront_journal_up": "1x200"}),
     "MserveJournalRoom": ({"mfront_journal_room_bytes": "900000000x200"}, {"mfront_journal_room_bytes": "2000000000x200"}),
     "MserveJournalFills": ({"mfront_journal_room_bytes": "9000000000-10000000x200"}, {"mfront_journal_room_bytes": "90000000000-10000000x200"}),
+    "MserveJournalInSpare": ({"mfront_journal_spare_bytes": "16777216x5 0x200"}, {"mfront_journal_spare_bytes": "16777216x200"}),
     "MserveStoreRoom": ({"mfront_store_room_bytes": "900000000x200"}, {"mfront_store_room_bytes": "2000000000x200"}),
     "MserveAuditRoom": ({"mfront_audit_room_bytes": "900000000x200"}, {"mfront_audit_room_bytes": "2000000000x200"}),
     "MserveJournalOpen": ({"mfront_journal_open_lines": "65x200"}, {"mfront_journal_open_lines": "64x200"}),

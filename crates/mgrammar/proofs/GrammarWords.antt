@@ -24,7 +24,8 @@ pub use Rattle.mgrammar.specs.Grammar.{no_atoms, no_patterns, patterns_of, divid
 pub use Rattle.mgrammar.specs.Grammar.{execute_word, executed, expr, exprs, exprs_of, extended, extrinsic, follows, for_argument, for_word, giving_back, global}
 pub use Rattle.mgrammar.specs.Grammar.{go_to, goto_argument, goto_word, greater, halt_word, hang_word, halt_or_hang_word, if_argument, if_word, indirect}
 pub use Rattle.mgrammar.specs.Grammar.{indirect_actual, indirect_args, is, is_bang, is_format, is_not, is_pattern_letter, join, kill_argument, kill_one}
-pub use Rattle.mgrammar.specs.Grammar.{kill_others, kill_word, less, local, lock_argument, hang_argument, quit_argument, lock_one, lock_several, lock_word}
+pub use Rattle.mgrammar.specs.Grammar.{kill_others, kill_word, less, local, lock_argument, hang_argument, quit_argument, merge_argument, merge_one, merge_word}
+pub use Rattle.mgrammar.specs.Grammar.{lock_one, lock_several, lock_word}
 pub use Rattle.mgrammar.specs.Grammar.{locked, hang_for, loop, returned, matches, matches_indirect, matches_not, matches_not_indirect, may_be_indirect, minus}
 pub use Rattle.mgrammar.specs.Grammar.{missing_actual, multiply, naked, name_actual, negate, new_argument, new_one, new_others, new_word, no_actuals}
 pub use Rattle.mgrammar.specs.Grammar.{no_argument, no_choices, no_exprs, no_tails, number, once, one, onward, operand, own_routine, part, plus, quit_word}
@@ -41,9 +42,13 @@ unfoldable pub use Rattle.mgrammar.specs.Specials.{special_of}
 pub use Rattle.mgrammar.specs.IndirectTexts.{whole_by}
 unfoldable pub use Rattle.mgrammar.specs.IndirectTexts.{args_of, name_of, pattern_of, ref_at}
 pub use Rattle.mgrammar.specs.Reading.{arg_at, at_end, command_by, comment_by, conditioned, doing_called, entry_by, given_by, has_args, increment_by, is_space}
-pub use Rattle.mgrammar.specs.Reading.{kind_of, limit_by, operand_by, operand_or, part_by, postcondition_by, set_argument_by, settled_with, spaced, value_by}
+pub use Rattle.mgrammar.specs.Reading.{kind_of, limit_by, merge_argument_by, operand_by, operand_or, part_by, postcondition_by, set_argument_by, settled_with}
+pub use Rattle.mgrammar.specs.Reading.{spaced, value_by}
 pub use Rattle.mgrammar.specs.Reading.{write_argument_by}
-unfoldable pub use Rattle.mgrammar.specs.Reading.{args_at, command_at, comment_at, destination_at, do_argument_at, entry_at, for_argument_at, goto_argument_at, if_argument_at, kill_argument_at, line_at, lock_argument_at, hang_argument_at, quit_argument_at, lock_ref_with, locked_at, names_at, new_argument_at, parameter_at, part_with, postcondition_at, set_argument_at, spaced_at, target_with, write_argument_at, xecute_argument_at}
+unfoldable pub use Rattle.mgrammar.specs.Reading.{args_at, command_at, comment_at, destination_at, do_argument_at, entry_at, for_argument_at, goto_argument_at}
+unfoldable pub use Rattle.mgrammar.specs.Reading.{if_argument_at, kill_argument_at, line_at, lock_argument_at, hang_argument_at, quit_argument_at}
+unfoldable pub use Rattle.mgrammar.specs.Reading.{merge_argument_at, lock_ref_with, locked_at, names_at, new_argument_at, parameter_at, part_with}
+unfoldable pub use Rattle.mgrammar.specs.Reading.{postcondition_at, set_argument_at, spaced_at, target_with, write_argument_at, xecute_argument_at}
 pub use Rattle.mgrammar.specs.ReadingExpressions.{Readers, attached_at, attached_by, dollar_by, dollars_by, expr_at, function_by, global_by, inner_at}
 pub use Rattle.mgrammar.specs.ReadingExpressions.{is_actual_end, is_reference_point, local_by, name_actual_by, matches_by, matches_not_by, owned_by}
 pub use Rattle.mgrammar.specs.ReadingExpressions.{reference_by, routine_by, special_by, tail_behind}

@@ -29,10 +29,6 @@ AreOfOne has ts = (map (has 0) ts ≡ map (λ t. false) ts) × (map (has 1) ts �
 abbrev AreOfBoth : (ℕ → List ℕ → Bool) → List (List ℕ) → Type 0
 AreOfBoth has ts = (map (has 0) ts ≡ map (λ t. true) ts) × (map (has 1) ts ≡ map (λ t. true) ts)
 
--- those that language 2 has, and language 1 has not
-abbrev AreOfTwo : (ℕ → List ℕ → Bool) → List (List ℕ) → Type 0
-AreOfTwo has ts = (map (has 1) ts ≡ map (λ t. false) ts) × (map (has 2) ts ≡ map (λ t. true) ts)
-
 -- those that none has
 abbrev AreOfNone : (ℕ → List ℕ → Bool) → List (List ℕ) → Type 0
 AreOfNone has ts = (map (has 0) ts ≡ map (λ t. false) ts) × (map (has 2) ts ≡ map (λ t. false) ts)
@@ -109,6 +105,17 @@ record Languages : Type 0 where
   -- the seconds of HANG, by each of its words
   seconds : AreOfOne has_line (
       codes "H 5" ∷ codes "h A,.5" ∷ codes "HANG 5" ∷ codes "hang:A 1" ∷ codes "H:A 1 W 2" ∷ codes "H @A" ∷ codes "HANG @A,1" ∷ [])
+  -- MERGE, by each of its words, of variables of all kinds, and by a text
+  merges : AreOfOne has_line (
+      codes "M A=B" ∷ codes "m A(1)=^B" ∷ codes "MERGE ^A=^(1),B=@C" ∷ codes "merge:A @B@(1)=^|\"X\"|C(2) W 1" ∷ codes "M @A" ∷ codes "M @A,B=C" ∷ [])
+  no_merges : AreOfNone has_line (
+      codes "M" ∷ codes "M A" ∷ codes "M A=1" ∷ codes "M (A,B)=C" ∷ codes "M A=B:1" ∷ codes "M A=(B)" ∷ codes "M @A@(1)" ∷ codes "M A=B_C" ∷
+      codes "M $P(A,1)=B" ∷ codes "ME A=B" ∷ [])
+  -- $INCREMENT, by each of its words, of a variable and with a number; alone the word is that of a special variable
+  increments : AreOfOne has_line (
+      codes "W $I(A)" ∷ codes "S ^A($i(^B(1),-2))=1" ∷ codes "W $INCREMENT(@A)" ∷ codes "W $increment(^(1),$I)" ∷ [])
+  no_increments : AreOfNone has_line (
+      codes "W $I()" ∷ codes "W $I(1)" ∷ codes "W $I(A,1,2)" ∷ codes "W $INC(A)" ∷ codes "S $I(A)=1" ∷ codes "W $I(A_1)" ∷ [])
   -- the value of QUIT, one alone, which no text gives
   values_of_quit : AreOfOne has_line (
       codes "Q 1" ∷ codes "quit A_B W 1" ∷ codes "Q:A -1" ∷ codes "Q @A" ∷ codes "Q ^A(1)" ∷ codes "W $Q" ∷ codes "Q $quit" ∷ codes "Q (1)" ∷ [])
@@ -130,10 +137,11 @@ record Languages : Type 0 where
   calls_in_arguments : AreOfOne has_line (
       codes "W @$$A" ∷ codes "S A($$B)=1" ∷ codes "S (A,B($$C))=$$C" ∷ codes "S $P(A,$$B)=1" ∷ codes "S @$$A" ∷ codes "K A($$B)" ∷ codes "L A($$B)" ∷
       codes "L (A,B($$C))" ∷ codes "L A:$$B" ∷ codes "D @$$A" ∷ codes "F A=$$B" ∷ codes "F A=1:$$B" ∷ codes "F A=$$B:1:2" ∷ codes "F A=1:1:$$B" ∷
-      codes "W 1,A($$B),2 Q" ∷ [])
-  -- and elsewhere: in the subscripts after an indirection
-  later_calls : AreOfTwo has_line (
-      codes "W @A@($$B)" ∷ codes "S X=@A@($$B)" ∷ codes "S @A@($$B)=1" ∷ codes "K @A@($$B)" ∷ codes "F A=1:1:@A@($$B)" ∷ codes "W 1,@A@($$B),2 Q" ∷ [])
+      codes "M A($$B)=C" ∷ codes "M A=B($$C)" ∷ codes "M @$$A" ∷ codes "W 1,A($$B),2 Q" ∷ [])
+  -- in the subscripts after an indirection
+  calls_after_texts : AreOfOne has_line (
+      codes "W @A@($$B)" ∷ codes "S X=@A@($$B)" ∷ codes "S @A@($$B)=1" ∷ codes "K @A@($$B)" ∷
+      codes "M A=@A@($$B)" ∷ codes "F A=1:1:@A@($$B)" ∷ codes "W 1,@A@($$B),2 Q" ∷ [])
   -- routines of another account, whose environment is a string
   shared : AreOfOne has_line (
       codes "D L^|\"LIB\"|R(X)" ∷ codes "D ^|\"LIB\"|R" ∷ codes "G L^|\"LIB\"|R" ∷ codes "G ^|\"LIB\"|R:A" ∷
@@ -176,12 +184,14 @@ record Languages : Type 0 where
       codes "I $RE(A)" ∷ codes "F I=$RE(A)" ∷ codes "F I=1:$RE(A)" ∷ codes "F I=1:1:$RE(A)" ∷ codes "D A:$RE(A)" ∷ codes "G A:$RE(A)" ∷ codes "X $RE(A)" ∷
       codes "X A:$RE(A)" ∷ codes "L A($RE(A))" ∷ codes "L (A,B($RE(A)))" ∷ codes "L A:$RE(A)" ∷ codes "Q:$RE(A)" ∷ codes "S @$RE(A)" ∷
       codes "W 1 W 2,$RE(A) Q" ∷ [])
-  routine_lines : AreOfOne has_routine_line (codes "T W $RE(A)" ∷ codes " . . W $RE(A)" ∷ codes "L(A) W 1" ∷ codes "L()" ∷ codes "L Q $$A" ∷ codes "L Q A($$B)" ∷ [])
-  later_routine_lines : AreOfTwo has_routine_line (codes "L Q @A@($$B)" ∷ codes " . K @A@($$B)" ∷ [])
+  routine_lines : AreOfOne has_routine_line (
+      codes "T W $RE(A)" ∷ codes " . . W $RE(A)" ∷ codes "L(A) W 1" ∷ codes "L()" ∷ codes "L Q $$A" ∷ codes "L Q A($$B)" ∷ codes "L Q @A@($$B)" ∷
+      codes " . K @A@($$B)" ∷ [])
   -- the text of a name has a tree with calls too, which fail once they are reached
   references : AreOfOne has_ref (codes "A($RE(A))" ∷ codes "@$RE(A)" ∷ codes "A($$B)" ∷ codes "@$$A" ∷ [])
-  argument_texts : AreOfOne has_args (codes "A=$RE(A)" ∷ codes "A=1,B=$RE(A)" ∷ codes "A=$$B" ∷ codes "A=1,B=$S($$A:1)" ∷ codes "A($$B)=1" ∷ codes "@$$A" ∷ [])
-  later_argument_texts : AreOfTwo has_args (codes "A=1,B=@C@($$A)" ∷ codes "@A@($$B)=1" ∷ [])
+  argument_texts : AreOfOne has_args (
+      codes "A=$RE(A)" ∷ codes "A=1,B=$RE(A)" ∷ codes "A=$$B" ∷ codes "A=1,B=$S($$A:1)" ∷ codes "A($$B)=1" ∷ codes "@$$A" ∷ codes "A=1,B=@C@($$A)" ∷
+      codes "@A@($$B)=1" ∷ [])
   -- in a string and in a comment it is no form
   all_the_same : AreOfBoth has_line (
       codes "W \"$RE(A)\"" ∷ codes "W 1 ;$RE(A)" ∷ codes "S RE=1,REVERSE=2" ∷ codes "W $J(A,1),$J($P(A,B,1,2),3)" ∷ codes "W !!,1#2,1*2,!" ∷

@@ -14,6 +14,7 @@ pub mod ReadingTargets
 pub mod ReadingArguments
 pub mod ReadingEntries
 pub mod ReadingLocks
+pub mod ReadingMerges
 pub mod ReadingIndirection
 pub mod ReadingCommands
 pub mod ReadingIndirectTexts

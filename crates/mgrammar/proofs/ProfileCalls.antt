@@ -7,7 +7,7 @@ use Rattle.mgrammar.proofs.GrammarWords.{operand, PrimaryTree, number, text, spe
 use Rattle.mgrammar.proofs.GrammarWords.{global, naked, indirect, extended, ExprsTree, no_exprs, exprs, ChoicesTree, no_choices, choice, ActualsTree}
 use Rattle.mgrammar.proofs.GrammarWords.{no_actuals, actuals, TargetTree, variable, part, DestinationTree, one, several, ParameterTree, once, onward, until}
 use Rattle.mgrammar.proofs.GrammarWords.{LockedTree, lock_one, lock_several, ArgTree, assign, formats, coded, shown, kill_one, kill_others, new_one, new_others}
-use Rattle.mgrammar.proofs.GrammarWords.{tested, loop, do_one, go_to, executed, locked, hang_for, returned, indirect_args, SpacedTree, exprs_count}
+use Rattle.mgrammar.proofs.GrammarWords.{tested, loop, do_one, go_to, executed, locked, hang_for, returned, merge_one, indirect_args, SpacedTree, exprs_count}
 use Rattle.mgrammar.specs.Commands.{since_keyword}
 use Rattle.mgrammar.specs.Functions.{since_function, since_values, since_part}
 use Rattle.mgrammar.specs.Languages.{since_all, since_optional, since_expr, since_tails, since_tail, since_operand, since_primary, since_reference, since_exprs}
@@ -149,6 +149,9 @@ profile_forms_have_no_call (locked k names t) h =
     no (has_call_locked names) (has_call_optional t) (locked_none names z.0) (profile_condition_has_no_call t z.1)
 profile_forms_have_no_call (hang_for e) h = expr_none e h
 profile_forms_have_no_call (returned e) h = expr_none e h
+profile_forms_have_no_call (merge_one target source) h =
+    let z = both (since_reference target) (since_reference source) h in
+    no (has_call_reference target) (has_call_reference source) (reference_none target z.0) (reference_none source z.1)
 profile_forms_have_no_call (indirect_args f p) h = primary_none p h
 
 -- no arguments of it call one

@@ -5,7 +5,8 @@ use Rattle.mgrammar.proofs.GrammarWords.{ap, subst, ◌∙◌, append_assoc, ari
 use Rattle.mgrammar.proofs.GrammarWords.{ExprTree, expr, no_tails, operand, PrimaryTree, reference, indirect, no_exprs, ArgTree, formats, coded, shown}
 use Rattle.mgrammar.proofs.GrammarWords.{kill_one, tested, loop, executed, locked, hang_for, returned, indirect_args, anew, lock_one, CommandTree, KeywordTree}
 use Rattle.mgrammar.proofs.GrammarWords.{for_word, FormTree, set_argument, kill_argument, new_argument, if_argument, for_argument, write_argument, do_argument}
-use Rattle.mgrammar.proofs.GrammarWords.{goto_argument, xecute_argument, lock_argument, hang_argument, quit_argument, no_argument, spell_expr, spell_arg}
+use Rattle.mgrammar.proofs.GrammarWords.{goto_argument, xecute_argument, lock_argument, hang_argument, quit_argument, merge_argument, no_argument, spell_expr}
+use Rattle.mgrammar.proofs.GrammarWords.{spell_arg}
 use Rattle.mgrammar.proofs.GrammarWords.{spell_args, spell_condition, spell_list, spell_more, spell_command, keyword_of, form_of, takes_args, takes_condition}
 use Rattle.mgrammar.proofs.GrammarWords.{max_depth, bare_arg, WellAll, WellList, WellExpr, WellBelow, WellOptional, WellPlain, WellArg, WellCondition}
 use Rattle.mgrammar.proofs.GrammarWords.{WellCommand, ◌>>=◌, run_of, after_run, past, list_at, kill_argument_at, new_argument_at, if_argument_at}
@@ -24,6 +25,7 @@ use Rattle.mgrammar.proofs.ReadingArguments.{if_argument_again, if_argument_begi
 use Rattle.mgrammar.proofs.ReadingArguments.{quit_argument_takes, quit_argument_again, quit_argument_begins, for_argument_takes, for_argument_again}
 use Rattle.mgrammar.proofs.ReadingArguments.{for_argument_begins}
 use Rattle.mgrammar.proofs.ReadingLocks.{lock_argument_takes, lock_argument_again, lock_argument_begins}
+use Rattle.mgrammar.proofs.ReadingMerges.{merge_argument_takes, merge_argument_again, merge_argument_begins}
 use Rattle.mgrammar.proofs.ReadingIndirection.{plain_well, which, settled_takes, settled_again, operand_takes, operand_again, hiding_apart, entrance_apart}
 use Rattle.mgrammar.proofs.ReadingIndirection.{leap_apart}
 use Rattle.mgrammar.proofs.ReadingEntries.{condition_read, condition_spelled, do_argument_takes, do_argument_again, do_argument_begins, goto_argument_takes}
@@ -179,6 +181,11 @@ is_form quit_argument = record {
   takes = λ cs x e. let t = quit_argument_takes cs x e in (t.0, plain_well quit_argument x.0 t.1 (quit_argument_plain x.0 t.1));
   again = several_again quit_argument (λ a rest w s. quit_argument_again a rest (written_value a w) s.0);
   begins = form_begins quit_argument (λ a w. as_arg a (quit_argument_begins a w));
+}
+is_form merge_argument = record {
+  takes = merge_argument_takes;
+  again = several_again merge_argument merge_argument_again;
+  begins = λ a w. as_arg a (merge_argument_begins a w);
 }
 is_form no_argument = record {
   takes = λ cs x e. absurd cc;

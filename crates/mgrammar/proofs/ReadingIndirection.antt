@@ -4,8 +4,10 @@ use Rattle.mgrammar.proofs.GrammarWords.{◌≡◌, ℕ, true, false, eqb, List,
 use Rattle.mgrammar.proofs.GrammarWords.{nat_tests, append-nil, append_assoc, spell_actuals, is_name_start, IsName, ExprTree, expr, no_tails, tail, operand}
 use Rattle.mgrammar.proofs.GrammarWords.{PrimaryTree, reference, EntryTree, at_label, at_label_in, at_routine, FormTree, set_argument, kill_argument}
 use Rattle.mgrammar.proofs.GrammarWords.{new_argument, if_argument, for_argument, write_argument, do_argument, goto_argument, xecute_argument, lock_argument}
-use Rattle.mgrammar.proofs.GrammarWords.{hang_argument, quit_argument, ArgTree, assign, formats, coded, shown, kill_one, kill_others, new_one, new_others}
-use Rattle.mgrammar.proofs.GrammarWords.{tested, loop, do_one, go_to, executed, locked, hang_for, returned, indirect_args, anew, adding, giving_back, lock_one}
+use Rattle.mgrammar.proofs.GrammarWords.{hang_argument, quit_argument, merge_argument, ArgTree, assign, formats, coded, shown, kill_one, kill_others, new_one}
+use Rattle.mgrammar.proofs.GrammarWords.{new_others}
+use Rattle.mgrammar.proofs.GrammarWords.{tested, loop, do_one, go_to, executed, locked, hang_for, returned, merge_one, indirect_args, anew, adding, giving_back}
+use Rattle.mgrammar.proofs.GrammarWords.{lock_one}
 use Rattle.mgrammar.proofs.GrammarWords.{lock_several, may_be_indirect, spell_expr, spell_reference, spell_primary, spell_routine, spell_entry, spell_condition}
 use Rattle.mgrammar.proofs.GrammarWords.{spell_arg, bare_primary, bare_expr, bare_arg, settled, max_depth, WellExpr, WellBelow, WellEntry, WellPlain, WellArg}
 use Rattle.mgrammar.proofs.GrammarWords.{Read, past, readers_at, settled_with, operand_by, operand_or}
@@ -51,6 +53,7 @@ bare_arg_is lock_argument (locked adding names t) p h w = absurd cc
 bare_arg_is lock_argument (locked giving_back names t) p h w = absurd cc
 bare_arg_is hang_argument (hang_for e) p h w = bare_expr_is max_depth e p h w
 bare_arg_is quit_argument (returned e) p h w = absurd cc
+bare_arg_is merge_argument (merge_one target source) p h w = absurd cc
 bare_arg_is f a p h w = absurd w
 
 -- ---- arguments that are written, and those that a text gives

@@ -1,12 +1,12 @@
 -- SPDX-License-Identifier: Apache-2.0
 -- What has no call is in steps.
-use Rattle.mgrammar.proofs.GrammarWords.{◌≡◌, Bool, true, false, List, [], ◌∷◌, Option, Some, None, refl, ap, ◌||◌, list_any, ExprTree, expr, TailsTree}
+use Rattle.mgrammar.proofs.GrammarWords.{◌≡◌, Bool, true, false, List, [], ◌∷◌, Option, Some, None, refl, ◌||◌, list_any, ExprTree, expr, TailsTree}
 use Rattle.mgrammar.proofs.GrammarWords.{no_tails, tail, TailTree, apply, matches, matches_not, raise, matches_indirect, matches_not_indirect, OperandTree}
 use Rattle.mgrammar.proofs.GrammarWords.{operand, PrimaryTree, number, text, special, reference, bracket, call, select, refer, extrinsic, ExprsTree, no_exprs}
 use Rattle.mgrammar.proofs.GrammarWords.{exprs, ActualTree, missing_actual, value_actual, name_actual, indirect_actual, ActualsTree, no_actuals, actuals}
 use Rattle.mgrammar.proofs.GrammarWords.{ArgTree, assign, formats, coded, shown, kill_one, kill_others, new_one, new_others, tested, loop, do_one}
-use Rattle.mgrammar.proofs.GrammarWords.{go_to, executed, locked, hang_for, returned, indirect_args, SpacedTree}
-use Rattle.std.specs.Prelude.{◌&&◌, not}
+use Rattle.mgrammar.proofs.GrammarWords.{go_to, executed, locked, hang_for, returned, merge_one, indirect_args, SpacedTree}
+use Rattle.std.specs.Prelude.{◌&&◌}
 use Rattle.std.specs.List.{list_all}
 use Rattle.mgrammar.specs.Grammar.{ReferenceTree, local, global, naked, indirect, extended, ChoicesTree, no_choices, choice}
 use Rattle.mgrammar.specs.Grammar.{TargetTree, variable, part, DestinationTree, one, several, ParameterTree, once, onward, until, LockedTree}
@@ -70,7 +70,7 @@ mutual
   reference_steps (naked subscripts) h = exprs_steps subscripts h
   reference_steps (indirect p subscripts) h =
       let n = neither (has_call_primary p) (has_call_exprs subscripts) h in
-      both (in_steps_primary p) (not (has_call_exprs subscripts)) (primary_steps p n.0) (ap not n.1)
+      both (in_steps_primary p) (in_steps_exprs subscripts) (primary_steps p n.0) (exprs_steps subscripts n.1)
   reference_steps (extended e name subscripts) h =
       let n = neither (has_call e) (has_call_exprs subscripts) h in
       both (in_steps e) (in_steps_exprs subscripts) (expr_steps e n.0) (exprs_steps subscripts n.1)
@@ -161,6 +161,9 @@ arg_steps (locked k names t) h =
     both (in_steps_locked names) (in_steps_optional t) (locked_steps names n.0) (optional_steps t n.1)
 arg_steps (hang_for e) h = expr_steps e h
 arg_steps (returned e) h = expr_steps e h
+arg_steps (merge_one target source) h =
+    let n = neither (has_call_reference target) (has_call_reference source) h in
+    both (in_steps_reference target) (in_steps_reference source) (reference_steps target n.0) (reference_steps source n.1)
 arg_steps (indirect_args f p) h = primary_steps p h
 
 spaced_steps : (c : SpacedTree) → has_call_spaced c ≡ false → in_steps_spaced c ≡ true

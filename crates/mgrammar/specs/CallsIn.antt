@@ -8,7 +8,7 @@ use Rattle.mgrammar.specs.Grammar.{extrinsic, ReferenceTree, local, global, nake
 use Rattle.mgrammar.specs.Grammar.{choice, ActualTree, missing_actual, value_actual, name_actual, indirect_actual, ActualsTree, no_actuals, actuals}
 use Rattle.mgrammar.specs.Grammar.{TargetTree, variable, part, DestinationTree, one, several, ParameterTree, once, onward, until, LockedTree, lock_one}
 use Rattle.mgrammar.specs.Grammar.{lock_several, ArgTree, assign, formats, coded, shown, kill_one, kill_others, new_one, new_others, tested, loop, do_one}
-use Rattle.mgrammar.specs.Grammar.{go_to, executed, locked, hang_for, returned, indirect_args, SpacedTree, LineTree}
+use Rattle.mgrammar.specs.Grammar.{go_to, executed, locked, hang_for, returned, merge_one, indirect_args, SpacedTree, LineTree}
 
 abbrev mutual
   pub has_call : ExprTree → Bool
@@ -103,6 +103,7 @@ has_call_arg (executed e c) = has_call e || has_call_optional c
 has_call_arg (locked k names t) = has_call_locked names || has_call_optional t
 has_call_arg (hang_for e) = has_call e
 has_call_arg (returned e) = has_call e
+has_call_arg (merge_one target source) = has_call_reference target || has_call_reference source
 has_call_arg (indirect_args f p) = has_call_primary p
 
 abbrev pub has_call_spaced : SpacedTree → Bool

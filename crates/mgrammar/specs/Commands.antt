@@ -6,9 +6,9 @@
 -- HANG: so it has a row of its own, which has no other word, and each of the two has its whole word alone.
 use Rattle.std.specs.Prelude.{ℕ, Bool, true, false, ◌&&◌, nat_le, if◌then◌else◌, Option, Some, None, List, [], ◌∷◌, codes}
 use Rattle.mgrammar.specs.Grammar.{is_at_most, is_either, KeywordTree, set_word, kill_word, new_word, if_word, else_word, for_word, quit_word, write_word}
-use Rattle.mgrammar.specs.Grammar.{do_word, goto_word, execute_word, lock_word, halt_word, hang_word, halt_or_hang_word}
+use Rattle.mgrammar.specs.Grammar.{do_word, goto_word, execute_word, lock_word, merge_word, halt_word, hang_word, halt_or_hang_word}
 use Rattle.mgrammar.specs.Grammar.{FormTree, set_argument, kill_argument, new_argument, if_argument, for_argument, write_argument, do_argument, goto_argument}
-use Rattle.mgrammar.specs.Grammar.{xecute_argument, lock_argument, hang_argument, quit_argument, no_argument}
+use Rattle.mgrammar.specs.Grammar.{xecute_argument, lock_argument, hang_argument, quit_argument, merge_argument, no_argument}
 
 pub record CommandRow : Type 0 where
   pub short : List ℕ
@@ -36,6 +36,7 @@ command_row do_word = row (codes "d") (codes "do") do_argument 0 None true 0
 command_row goto_word = row (codes "g") (codes "goto") goto_argument 1 None true 0
 command_row execute_word = row (codes "x") (codes "xecute") xecute_argument 1 None true 0
 command_row lock_word = row (codes "l") (codes "lock") lock_argument 0 None true 0
+command_row merge_word = row (codes "m") (codes "merge") merge_argument 1 None true 1
 command_row halt_word = row (codes "halt") (codes "halt") no_argument 0 (Some 0) true 0
 command_row hang_word = row (codes "hang") (codes "hang") hang_argument 1 None true 1
 command_row halt_or_hang_word = row (codes "h") (codes "h") hang_argument 0 None true 0
@@ -43,8 +44,8 @@ command_row halt_or_hang_word = row (codes "h") (codes "h") hang_argument 0 None
 -- those that there are
 abbrev pub keywords : List KeywordTree
 keywords =
-    set_word ∷ kill_word ∷ new_word ∷ if_word ∷ else_word ∷ for_word ∷ quit_word ∷ write_word ∷ do_word ∷ goto_word ∷ execute_word ∷ lock_word ∷ halt_word ∷ hang_word ∷
-    halt_or_hang_word ∷ []
+    set_word ∷ kill_word ∷ new_word ∷ if_word ∷ else_word ∷ for_word ∷ quit_word ∷ write_word ∷ do_word ∷ goto_word ∷ execute_word ∷ lock_word ∷
+    merge_word ∷ halt_word ∷ hang_word ∷ halt_or_hang_word ∷ []
 
 abbrev pub keyword_named : List ℕ → List KeywordTree → Option KeywordTree
 keyword_named w [] = None

@@ -24,6 +24,7 @@ pub data ValueFunctionTree : Type 0 where
 pub data VariableFunctionTree : Type 0 where
   data_function : VariableFunctionTree
   get_function : VariableFunctionTree
+  increment_function : VariableFunctionTree
   name_function : VariableFunctionTree
   order_function : VariableFunctionTree
   query_function : VariableFunctionTree
@@ -52,6 +53,7 @@ function_rows =
     ∷ row (codes "f") (codes "find") (of_values find_function 2 (Some 3)) 0
     ∷ row (codes "fn") (codes "fnumber") (of_values format_number_function 2 (Some 3)) 1
     ∷ row (codes "g") (codes "get") (of_variable get_function 1) 0
+    ∷ row (codes "i") (codes "increment") (of_variable increment_function 1) 1
     ∷ row (codes "j") (codes "justify") (of_values justify_function 2 (Some 3)) 0
     ∷ row (codes "l") (codes "length") (of_values length_function 1 (Some 2)) 0
     ∷ row (codes "na") (codes "name") (of_variable name_function 1) 1

@@ -208,13 +208,15 @@ pub data FormTree : Type 0 where
   lock_argument : FormTree
   hang_argument : FormTree
   quit_argument : FormTree
+  merge_argument : FormTree
   no_argument : FormTree
 
 -- an argument of any command: `setargument`, a destination and a value; `writeargument`, formats, a character by its code, or a value;
 -- `killargument`, a variable, or the names that are spared; `newargument`, a name, or the names that are spared; the condition
 -- of `ifargument`; what comes after FOR, the name of an index and its parameters; and with a `postcond` of its own or none,
--- `doargument`, of which actuals are a part, `gotoargument` and `xargument`; `lockargument`, with its `timeout` or none; the number of `hangargument`; the value of `quitargument`. Argument
--- indirection: arguments of this form that a text gives, the value of the `expratom` after an `@`
+-- `doargument`, of which actuals are a part, `gotoargument` and `xargument`; `lockargument`, with its `timeout` or none; the number of
+-- `hangargument`; the value of `quitargument`; the variables of `mergeargument`, the target first. Argument indirection: arguments of this
+-- form that a text gives, the value of the `expratom` after an `@`
 pub data ArgTree : Type 0 where
   assign : DestinationTree → ExprTree → ArgTree
   formats : List ℕ → Option ExprTree → ArgTree
@@ -232,6 +234,7 @@ pub data ArgTree : Type 0 where
   locked : LockKindTree → LockedTree → Option ExprTree → ArgTree
   hang_for : ExprTree → ArgTree
   returned : ExprTree → ArgTree
+  merge_one : (target source : ReferenceTree) → ArgTree
   indirect_args : FormTree → PrimaryTree → ArgTree
 
 -- `commandword`, whatever its spelling; the letter of HALT and HANG, which its arguments tell apart, is a word of its own
@@ -248,6 +251,7 @@ pub data KeywordTree : Type 0 where
   goto_word : KeywordTree
   execute_word : KeywordTree
   lock_word : KeywordTree
+  merge_word : KeywordTree
   halt_word : KeywordTree
   hang_word : KeywordTree
   halt_or_hang_word : KeywordTree
@@ -503,6 +507,7 @@ spell_arg (executed e c) = spell_expr e ++ spell_condition c
 spell_arg (locked k names t) = (spell_kind k ++ spell_locked names) ++ spell_condition t
 spell_arg (hang_for e) = spell_expr e
 spell_arg (returned e) = spell_expr e
+spell_arg (merge_one target source) = spell_reference target ++ 61 ∷ spell_reference source
 spell_arg (indirect_args f p) = 64 ∷ spell_primary p
 
 -- after a space, if there are some
@@ -549,6 +554,7 @@ may_be_indirect xecute_argument = true
 may_be_indirect lock_argument = true
 may_be_indirect hang_argument = true
 may_be_indirect quit_argument = false
+may_be_indirect merge_argument = true
 may_be_indirect no_argument = false
 
 -- a format of WRITE: a `!`, or a `#`

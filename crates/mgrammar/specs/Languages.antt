@@ -12,7 +12,7 @@ use Rattle.mgrammar.specs.Grammar.{extrinsic, ReferenceTree, local, global, nake
 use Rattle.mgrammar.specs.Grammar.{choice, ActualTree, missing_actual, value_actual, name_actual, indirect_actual, ActualsTree, no_actuals, actuals}
 use Rattle.mgrammar.specs.Grammar.{TargetTree, variable, part, DestinationTree, one, several, ParameterTree, once, onward, until, LockedTree, lock_one}
 use Rattle.mgrammar.specs.Grammar.{lock_several, FormTree, ArgTree, assign, formats, coded, shown, kill_one, kill_others, new_one, new_others, tested, loop}
-use Rattle.mgrammar.specs.Grammar.{do_one, go_to, executed, locked, hang_for, returned, indirect_args, CommandTree, SpacedTree, LineTree, is_bang}
+use Rattle.mgrammar.specs.Grammar.{do_one, go_to, executed, locked, hang_for, returned, merge_one, indirect_args, CommandTree, SpacedTree, LineTree, is_bang}
 use Rattle.mgrammar.specs.Functions.{since_function, since_values, since_part}
 use Rattle.mgrammar.specs.WellFormed.{exprs_count}
 use Rattle.mgrammar.specs.Commands.{since_keyword}
@@ -145,6 +145,7 @@ since_forms (executed e c) = max (since_expr e) (since_optional since_expr c)
 since_forms (locked k names t) = max (since_locked names) (since_optional since_expr t)
 since_forms (hang_for e) = since_expr e
 since_forms (returned e) = since_expr e
+since_forms (merge_one target source) = max (since_reference target) (since_reference source)
 since_forms (indirect_args f p) = since_primary p
 
 -- that of the places where functions are called, from whether these can be reached a step at a time

@@ -1,7 +1,6 @@
 -- SPDX-License-Identifier: Apache-2.0
--- Whether each call of a function in a tree stands where it can be carried out a step at a time: anywhere but in the subscripts after an
--- indirection, which are evaluated as a whole once the text is read.
-use Rattle.std.specs.Prelude.{Bool, true, ◌&&◌, not, List, Option, Some, None}
+-- Whether each call of a function in a tree stands where it can be carried out a step at a time: anywhere.
+use Rattle.std.specs.Prelude.{Bool, true, ◌&&◌, List, Option, Some, None}
 use Rattle.std.specs.List.{list_all}
 use Rattle.mgrammar.specs.Grammar.{ExprTree, expr, TailsTree, no_tails, tail, TailTree, apply, matches, matches_not, raise, matches_indirect}
 use Rattle.mgrammar.specs.Grammar.{matches_not_indirect}
@@ -11,8 +10,7 @@ use Rattle.mgrammar.specs.Grammar.{ActualTree, missing_actual, value_actual, nam
 use Rattle.mgrammar.specs.Grammar.{TargetTree, variable, part, DestinationTree, one, several, ParameterTree, once, onward, until, LockedTree}
 use Rattle.mgrammar.specs.Grammar.{lock_one, lock_several}
 use Rattle.mgrammar.specs.Grammar.{ArgTree, assign, formats, coded, shown, kill_one, kill_others, new_one, new_others, tested, loop, do_one, go_to, executed}
-use Rattle.mgrammar.specs.Grammar.{locked, hang_for, returned, indirect_args, SpacedTree, LineTree}
-use Rattle.mgrammar.specs.CallsIn.{has_call_exprs}
+use Rattle.mgrammar.specs.Grammar.{locked, hang_for, returned, merge_one, indirect_args, SpacedTree, LineTree}
 
 abbrev mutual
   pub in_steps : ExprTree → Bool
@@ -48,7 +46,7 @@ abbrev mutual
   in_steps_reference (local name subscripts) = in_steps_exprs subscripts
   in_steps_reference (global name subscripts) = in_steps_exprs subscripts
   in_steps_reference (naked subscripts) = in_steps_exprs subscripts
-  in_steps_reference (indirect p subscripts) = in_steps_primary p && not (has_call_exprs subscripts)
+  in_steps_reference (indirect p subscripts) = in_steps_primary p && in_steps_exprs subscripts
   in_steps_reference (extended e name subscripts) = in_steps e && in_steps_exprs subscripts
 
   pub in_steps_exprs : ExprsTree → Bool
@@ -110,6 +108,7 @@ in_steps_arg (executed e c) = in_steps e && in_steps_optional c
 in_steps_arg (locked k names t) = in_steps_locked names && in_steps_optional t
 in_steps_arg (hang_for e) = in_steps e
 in_steps_arg (returned e) = in_steps e
+in_steps_arg (merge_one target source) = in_steps_reference target && in_steps_reference source
 in_steps_arg (indirect_args f p) = in_steps_primary p
 
 abbrev pub in_steps_args : List ArgTree → Bool

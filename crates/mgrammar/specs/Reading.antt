@@ -5,13 +5,14 @@ use Rattle.std.specs.Prelude.{ℕ, suc, ◌-◌, Bool, true, false, not, ◌&&�
 use Rattle.mspec.specs.Names.{is_letter, is_character}
 use Rattle.mgrammar.specs.Grammar.{ExprTree, exprs_of, PrimaryTree, ReferenceTree, TargetTree, variable, part, DestinationTree, one, several, ParameterTree}
 use Rattle.mgrammar.specs.Grammar.{once, onward, until, EntryTree, ActualsTree, ArgTree, assign, formats, coded, shown, kill_one, kill_others, new_one}
-use Rattle.mgrammar.specs.Grammar.{new_others, tested, loop, do_one, go_to, executed, locked, hang_for, returned, indirect_args, LockKindTree, anew, adding}
+use Rattle.mgrammar.specs.Grammar.{new_others, tested, loop, do_one, go_to, executed, locked, hang_for, returned, merge_one, indirect_args, LockKindTree, anew}
+use Rattle.mgrammar.specs.Grammar.{adding}
 use Rattle.mgrammar.specs.Grammar.{giving_back, LockedTree, lock_one, lock_several, CommandTree, SpacedTree, LineTree, KeywordTree, FormTree, set_argument}
 use Rattle.mgrammar.specs.Grammar.{kill_argument, new_argument, if_argument, for_argument, write_argument, do_argument, goto_argument, xecute_argument}
-use Rattle.mgrammar.specs.Grammar.{lock_argument, hang_argument, quit_argument, no_argument, is_format}
+use Rattle.mgrammar.specs.Grammar.{lock_argument, hang_argument, quit_argument, merge_argument, no_argument, is_format}
 use Rattle.mgrammar.specs.Commands.{keyword_of, form_of, takes_args, takes_condition}
 use Rattle.mgrammar.specs.Functions.{FunctionTree, of_values, of_variable, of_choices, function_of, takes, is_part}
-use Rattle.mgrammar.specs.WellFormed.{bare_destination, is_named, bare_arg, settled, least_gap, max_depth}
+use Rattle.mgrammar.specs.WellFormed.{bare_reference, bare_destination, is_named, bare_arg, settled, least_gap, max_depth}
 use Rattle.mgrammar.specs.ReadingWords.{Read, ◌>>=◌, run_of, after_run, after_sign, name_at, past, many, after_comma, list_at}
 use Rattle.mgrammar.specs.ReadingExpressions.{Readers, reference_with, called_with, readers_at, expr_at}
 pub use Rattle.mgrammar.specs.ReadingExpressions.{label_by, entry_by}
@@ -151,6 +152,14 @@ hang_argument_at cs = expr_at max_depth cs >>= λ e. Some (hang_for e.0, e.1)
 unfoldable pub quit_argument_at : List ℕ → Read ArgTree
 quit_argument_at cs = expr_at max_depth cs >>= λ e. Some (returned e.0, e.1)
 
+-- the target is read, and this text comes after a `=`, or none does
+abbrev pub merge_argument_by : ReferenceTree → List ℕ → Option (List ℕ) → Read ArgTree
+merge_argument_by target cs None = given_by merge_argument cs (bare_reference target)
+merge_argument_by target cs (Some rest) = reference_with (readers_at max_depth) rest >>= λ v. Some (merge_one target v.0, v.1)
+
+unfoldable pub merge_argument_at : List ℕ → Read ArgTree
+merge_argument_at cs = reference_with (readers_at max_depth) cs >>= λ v. merge_argument_by v.0 v.1 (past 61 v.1)
+
 -- ---- argument indirection
 
 -- one that begins as a variable or an expression may be an `@` with its operand alone
@@ -178,6 +187,7 @@ arg_at xecute_argument = settled_with xecute_argument_at xecute_argument
 arg_at lock_argument = settled_with lock_argument_at lock_argument
 arg_at hang_argument = settled_with hang_argument_at hang_argument
 arg_at quit_argument = quit_argument_at
+arg_at merge_argument = merge_argument_at
 arg_at no_argument = λ cs. None
 
 -- ---- commands and lines

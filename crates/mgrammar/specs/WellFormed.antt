@@ -12,10 +12,11 @@ use Rattle.mgrammar.specs.Grammar.{extrinsic, ReferenceTree, local, global, nake
 use Rattle.mgrammar.specs.Grammar.{choice, ActualTree, missing_actual, value_actual, name_actual, indirect_actual, ActualsTree, no_actuals, actuals, TargetTree}
 use Rattle.mgrammar.specs.Grammar.{variable, part, DestinationTree, one, several, ParameterTree, once, onward, until, RoutineTree, own_routine, shared_routine}
 use Rattle.mgrammar.specs.Grammar.{EntryTree, at_label, at_label_in, at_routine, ArgTree, assign, formats, coded, shown, kill_one, kill_others, new_one}
-use Rattle.mgrammar.specs.Grammar.{new_others, tested, loop, do_one, go_to, executed, locked, hang_for, returned, indirect_args, LockedTree, lock_one}
+use Rattle.mgrammar.specs.Grammar.{new_others, tested, loop, do_one, go_to, executed, locked, hang_for, returned, merge_one, indirect_args, LockedTree}
+use Rattle.mgrammar.specs.Grammar.{lock_one}
 use Rattle.mgrammar.specs.Grammar.{lock_several, anew, adding, giving_back, KeywordTree, CommandTree, SpacedTree, LineTree, FormTree, set_argument}
 use Rattle.mgrammar.specs.Grammar.{kill_argument, new_argument, if_argument, for_argument, write_argument, do_argument, goto_argument, xecute_argument}
-use Rattle.mgrammar.specs.Grammar.{lock_argument, hang_argument, quit_argument, may_be_indirect, is_pattern_letter, is_format}
+use Rattle.mgrammar.specs.Grammar.{lock_argument, hang_argument, quit_argument, merge_argument, may_be_indirect, is_pattern_letter, is_format}
 use Rattle.mgrammar.specs.Specials.{SpecialTree, special_of}
 use Rattle.mgrammar.specs.Commands.{keyword_of, form_of, takes_args, takes_condition}
 use Rattle.mgrammar.specs.Functions.{ValueFunctionTree, VariableFunctionTree, of_values, of_variable, of_choices, function_of, takes, is_part}
@@ -271,6 +272,7 @@ WellPlain xecute_argument (executed e c) = WellExpr max_depth e × WellOptional 
 WellPlain lock_argument (locked k names t) = WellLocked names × WellOptional max_depth t
 WellPlain hang_argument (hang_for e) = WellExpr max_depth e
 WellPlain quit_argument (returned e) = WellExpr max_depth e
+WellPlain merge_argument (merge_one target source) = WellReference max_depth target × WellReference max_depth source
 WellPlain f a = ⊥
 
 -- the operand, if an argument is an `@` with it and nothing more
@@ -296,6 +298,7 @@ bare_arg (locked adding names t) = None
 bare_arg (locked giving_back names t) = None
 bare_arg (hang_for e) = bare_expr e
 bare_arg (returned e) = None
+bare_arg (merge_one target source) = None
 bare_arg (indirect_args f p) = None
 
 -- an argument of this form, unless it is an `@` with this operand and nothing more

@@ -1,12 +1,13 @@
 -- SPDX-License-Identifier: Apache-2.0
 -- Where variables are, and what a change of one leaves of all.
-use Rattle.mspec.proofs.SpecWords.{ℕ, suc, ◌≡◌, ◌<◌, Bool, true, false, not, cond, List, [], ◌∷◌, length, map, Option, Some, None, refl, sym, ap, ◌∙◌, arith}
+use Rattle.mspec.proofs.SpecWords.{ℕ, suc, ◌≡◌, ◌<◌, Bool, true, false, not, cond, ◌&&◌, List, [], ◌∷◌, length, map, Option, Some, None, refl, sym, ap, ◌∙◌}
+use Rattle.mspec.proofs.SpecWords.{arith}
 use Rattle.mspec.proofs.SpecWords.{nat_tests, nat_eq, subst, unwrap_or, lookup, bytes_decides, nat_list_cmp_total, tied_itself, get, insert, empty, retain_keys}
 use Rattle.mspec.proofs.SpecWords.{get-insert, is_eq, entries, Text, Tree, text_eq, without, is_within}
 use Rattle.std.proofs.Math.Nat.{lt_irrefl}
 use Rattle.std.specs.FinMap.{same_entries_map}
-use Rattle.mspec.specs.Scopes.{Scope, Scopes, has, linked, tree_in, tree_of, with_tree, at_home, is_bare, set_in, kill_in}
-use Rattle.mspec.specs.ScopeLaws.{home_of, NamesOfOneHome, NamesOfTwoHomes, ScopesWithoutLinks}
+use Rattle.mspec.specs.Scopes.{Scope, Scopes, has, linked, are_one, tree_in, tree_of, with_tree, at_home, is_bare, set_in, kill_in}
+use Rattle.mspec.specs.ScopeLaws.{home_of, IsToldApart, NamesAreToldApart, NamesOfOneHome, NamesOfTwoHomes, ScopesWithoutLinks}
 use Rattle.mspec.proofs.ComputedMaps.{no_texts_cut, no_nodes}
 use Rattle.mspec.proofs.ScopeFacts.{tree-retain, other-tree, bare-names, bare-other}
 
@@ -48,6 +49,24 @@ one_tree (s ∷ below) m n e = here (has s m) (has s n) e (one_tree below (linke
     here true false e rest = absurd (no_home below (linked s n) m (sym e))
     here false true e rest = absurd (no_home below (linked s m) n e)
     here false false e rest = rest e
+
+pub names_are_told_apart : NamesAreToldApart
+names_are_told_apart [] m n h e = absurd cc
+names_are_told_apart (s ∷ below) m n h e =
+    let is = here (has s m) (has s n) e (names_are_told_apart below (linked s m) (linked s n) h) in
+    record { told = is.0; truly = is.1 }
+  where
+    here : (a b : Bool) → cond a (Some (length below, m)) (home_of below (linked s m)) ≡ Some h
+        → (home_of below (linked s m) ≡ Some h → IsToldApart below (linked s m) (linked s n) h)
+        → (cond b (Some (length below, n)) (home_of below (linked s n)) ≡ Some h
+        → cond a (b && text_eq m n) (not b && are_one below (linked s m) (linked s n)) ≡ true)
+        × (cond a (b && text_eq m n) (not b && are_one below (linked s m) (linked s n)) ≡ true
+        → cond b (Some (length below, n)) (home_of below (linked s n)) ≡ Some h)
+    here true true e rest =
+        (λ q. (bytes_decides m n).1 (same_name (length below) m n (e ∙ sym q)), λ q. ap (λ x. Some (length below, x)) (sym ((bytes_decides m n).0 q)) ∙ e)
+    here true false e rest = (λ q. absurd (no_home below (linked s n) m (q ∙ sym e)), λ q. absurd cc)
+    here false true e rest = (λ q. absurd (no_home below (linked s m) n (e ∙ sym q)), λ q. absurd cc)
+    here false false e rest = let r = rest e in (r.told, r.truly)
 
 -- ---- a change of one variable
 

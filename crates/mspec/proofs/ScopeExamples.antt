@@ -1,7 +1,8 @@
 -- SPDX-License-Identifier: Apache-2.0
 -- Variables with two names, on examples, as proved equations. The values are what GT.M answers.
-use Rattle.mspec.proofs.SpecWords.{◌≡◌, [], ◌∷◌, Some, None, codes, Text}
-use Rattle.mspec.specs.Scopes.{Scopes, bottom, value_at, assigned, killed, killed_except, newed, newed_except, valued, linked_to, unset, bound, without_level}
+use Rattle.mspec.proofs.SpecWords.{◌≡◌, true, false, [], ◌∷◌, Some, None, codes, rules, Text}
+use Rattle.mspec.specs.Scopes.{Scopes, bottom, are_one, value_at, assigned, killed, killed_except, newed, newed_except, valued, linked_to, unset, bound}
+use Rattle.mspec.specs.Scopes.{without_level}
 use Rattle.mspec.proofs.ComputedMaps.{computed_maps}
 use Rattle.mspec.proofs.ComputedNumbers.{computes}
 
@@ -62,6 +63,21 @@ spared = record {
   by_hidden = simp computed_maps;
   below_hidden = simp computed_maps;
 }
+
+-- ---- names of one variable
+
+record Joined : Type 0 where
+  both : are_one joined a b ≡ true
+  other : are_one joined b c ≡ false
+  itself : are_one joined c c ≡ true
+  -- a new variable is another one than the one that it hides
+  hidden : are_one (newed (a ∷ []) joined) a b ≡ false
+  exchanged_names : are_one (bound ((b, linked_to a) ∷ (a, linked_to b) ∷ []) before) a b ≡ false
+  of_two_names : are_one (bound ((b, linked_to a) ∷ (c, linked_to a) ∷ []) before) b c ≡ true
+
+joined_names : Joined
+unfolding computes
+joined_names = search rules
 
 -- ---- NEW
 

@@ -18,6 +18,7 @@ pub data Code : Type 0 where
   M15 : Code
   M16 : Code
   M17 : Code
+  M19 : Code
   M20 : Code
   M28 : Code
   M58 : Code
@@ -67,6 +68,7 @@ code_text M13 = codes "M13"
 code_text M15 = codes "M15"
 code_text M16 = codes "M16"
 code_text M17 = codes "M17"
+code_text M19 = codes "M19"
 code_text M20 = codes "M20"
 code_text M28 = codes "M28"
 code_text M58 = codes "M58"

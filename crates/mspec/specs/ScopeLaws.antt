@@ -6,7 +6,8 @@ use Rattle.std.specs.FinMap.{insert, empty}
 use Rattle.std.specs.List.{list_any}
 use Rattle.std.specs.Map.{keys_of}
 use Rattle.mspec.specs.Node.{Text}
-use Rattle.mspec.specs.Scopes.{Scope, Scopes, has, is_among, linked, tree_in, tree_of, at_home, assigned, killed, stays, killed_except, newed, newed_except}
+use Rattle.mspec.specs.Scopes.{Scope, Scopes, has, is_among, linked, are_one, tree_in, tree_of, at_home, assigned, killed, stays, killed_except, newed}
+use Rattle.mspec.specs.Scopes.{newed_except}
 use Rattle.mspec.specs.Scopes.{with_level, Binding, valued, linked_to, unset, bound, without_level}
 use Rattle.mspec.specs.Trees.{without}
 
@@ -61,6 +62,14 @@ pub record IsOneVariable (scopes : Scopes) (m n : Text) : Type 0 where
 
 abbrev pub NamesOfOneHome : Type 0
 NamesOfOneHome = (scopes : Scopes) (m n : Text) (home : ℕ × Text) → home_of scopes m ≡ Some home → home_of scopes n ≡ Some home → IsOneVariable scopes m n
+
+-- which names are of one variable can be told from the scopes alone
+pub record IsToldApart (scopes : Scopes) (m n : Text) (home : ℕ × Text) : Type 0 where
+  pub told : home_of scopes n ≡ Some home → are_one scopes m n ≡ true
+  pub truly : are_one scopes m n ≡ true → home_of scopes n ≡ Some home
+
+abbrev pub NamesAreToldApart : Type 0
+NamesAreToldApart = (scopes : Scopes) (m n : Text) (home : ℕ × Text) → home_of scopes m ≡ Some home → IsToldApart scopes m n home
 
 -- and to no other
 pub record AreTwoVariables (scopes : Scopes) (m n : Text) : Type 0 where

@@ -6,7 +6,7 @@
 -- variable is that of the topmost scope that has its name. A parameter by reference is a link: a name under which the scopes
 -- below know the variable by another name. NEW acts on the top scope alone, so what a link leads to stays the same while its
 -- scope is there.
-use Rattle.std.specs.Prelude.{Bool, false, not, cond, ◌||◌, nat_eq, length, List, [], ◌∷◌, ◌++◌, Option, Some, None, unwrap_or, option_and_then}
+use Rattle.std.specs.Prelude.{Bool, false, not, cond, ◌&&◌, ◌||◌, nat_eq, length, List, [], ◌∷◌, ◌++◌, Option, Some, None, unwrap_or, option_and_then}
 use Rattle.std.specs.List.{list_any, filter, flat_map}
 use Rattle.std.specs.Map.{lookup, keys_of}
 use Rattle.std.specs.Ordering.{nat_cmp}
@@ -64,6 +64,11 @@ tree_of (s ∷ below) n = cond (has s n) (tree_in s n) (tree_of below (linked s 
 abbrev pub at_home : (Text → Scope → Scope) → Text → Scopes → Scopes
 at_home f n [] = []
 at_home f n (s ∷ below) = cond (has s n) (f n s ∷ below) (s ∷ at_home f (linked s n) below)
+
+-- whether two names lead to one variable
+abbrev pub are_one : Scopes → Text → Text → Bool
+are_one [] a b = false
+are_one (s ∷ below) a b = cond (has s a) (has s b && text_eq a b) (not (has s b) && are_one below (linked s a) (linked s b))
 
 -- ---- what is asked of a variable, and assigned
 

@@ -2,6 +2,7 @@
 // The laws of scopes. Each function's contract is the law, and its body is empty: the code never calls them.
 ghost use Rattle.mspec.specs.ScopeLaws.{LeavingRestores, TopVariablesStandAlone, NewKeepsBelow, NewHides, NewExceptHides, NamesOfOneHome, NamesOfTwoHomes};
 ghost use Rattle.mspec.specs.ScopeLaws.{NamesStayJoined, KillExceptSpares, FormalsAreBound, ScopesWithoutLinks, HiddenVariablesStay, HiddenVariablesComeBack};
+ghost use Rattle.mspec.specs.ScopeLaws.{NamesAreToldApart};
 
 /// Leaving a level that was just entered gives back what was there.
 #[tactic(auto, using(crate::proofs::ScopeFacts::leaving_restores))]
@@ -36,6 +37,12 @@ pub fn new_except_hides()
 /// What is done to a variable by one of its names is done to it by each.
 pub fn names_of_one_home()
     ensures { NamesOfOneHome }
+{}
+
+/// Which names are of one variable can be told from the scopes alone.
+#[tactic(auto, using(crate::proofs::Homes::names_are_told_apart))]
+pub fn names_are_told_apart()
+    ensures { NamesAreToldApart }
 {}
 
 /// What is done to a variable is done to no other.

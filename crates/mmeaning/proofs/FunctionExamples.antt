@@ -19,12 +19,10 @@ record Functions : Type 0 where
       (codes "D SHOW^T($$ONE^T)", done (codes "1")) ∷
       (codes "X \"W $$ADD^T(1,2)\"", done (codes "12")) ∷
       (codes "W $$LAST^T(2)", done (codes "21")) ∷ [])
-  -- a call stands where it can be carried out a step at a time; of a language that no settings reach it does elsewhere too
-  early : WithEachIn 1 (codes "T") lines ((codes "S A(1)=\"y\",C=\"A\" W @C@($$ONE^T)", failed [] Zsyntax) ∷ [])
-  elsewhere : WithEachIn 2 (codes "T") lines ((codes "S A(1)=\"y\",C=\"A\" W @C@($$ONE^T)", done (codes "y")) ∷ [])
-  -- in a subscript, after a variable, and in $SELECT, of which what is passed by calls nothing
+  -- in a subscript, also after an indirection, after a variable, and in $SELECT, of which what is passed by calls nothing
   anywhere : WithEachIn 1 (codes "T") lines (
       (codes "S A(1)=\"y\" W A($$ONE^T)", done (codes "y")) ∷
+      (codes "S A(1)=\"y\",C=\"A\" W @C@($$ONE^T)", done (codes "y")) ∷
       (codes "W $G(A,$$ONE^T)", done (codes "1")) ∷
       (codes "W $S(0:$$NO^T(),$$ONE^T:2,1:$$NO^T())", done (codes "2")) ∷ [])
   -- from left to right; $TEST is afterwards what it was, and HALT ends the session from within
@@ -53,11 +51,9 @@ functions = record {
   values = λ g h.
       at_case _ refl (simp (running, asked g _ _ h)) (at_case _ refl (simp (running, asked g _ _ h)) (at_case _ refl (simp (running, asked g _ _ h)) (
       at_case _ refl (simp (running, asked g _ _ h)) (at_case _ refl (simp (running, asked g _ _ h)) no_more))));
-  early = λ g h. at_case _ refl (simp running) no_more;
-  elsewhere = λ g h. at_case _ refl (simp (running, asked g _ _ h)) no_more;
   anywhere = λ g h.
       at_case _ refl (simp (running, asked g _ _ h)) (at_case _ refl (simp (running, asked g _ _ h)) (
-      at_case _ refl (simp (running, asked g _ _ h)) no_more));
+      at_case _ refl (simp (running, asked g _ _ h)) (at_case _ refl (simp (running, asked g _ _ h)) no_more)));
   effects = λ g h.
       at_case _ refl (simp (running, asked g _ _ h)) (at_case _ refl (simp (running, asked g _ _ h)) (at_case _ refl (simp (running, asked g _ _ h)) (
       at_case _ refl (simp (running, asked g _ _ h)) (at_case _ refl (simp (running, asked g _ _ h)) no_more))));

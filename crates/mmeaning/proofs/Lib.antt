@@ -32,6 +32,7 @@ pub mod LockRuns
 pub mod LockRows
 pub mod EnvironmentExamples
 pub mod LanguageExamples
+pub mod MergeExamples
 pub mod NameValueExamples
 pub mod ParameterExamples
 pub mod FunctionExamples

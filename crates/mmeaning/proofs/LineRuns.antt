@@ -2,9 +2,9 @@
 -- Lines of a terminal, one after another, in a form that `simp` computes: a turn is opened only if its state is known, since what
 -- runs a turn holds what runs the next one, and so on for all the fuel.
 use Rattle.mmeaning.proofs.MeaningWords.{◌≡◌, ℕ, zero, suc, Bool, true, false, List, [], ◌∷◌, Option, Some, None, refl, ap, ◌∙◌, map, empty, get, insert}
-use Rattle.mmeaning.proofs.MeaningWords.{get-insert, nat_cmp_total, Plan, perform, Zsyntax, Zsteps, Zterm, Zline, Zchar, ReferenceTree, ExprsTree, ArgTree}
+use Rattle.mmeaning.proofs.MeaningWords.{get-insert, nat_cmp_total, Plan, perform, Zsyntax, Zsteps, Zterm, Zline, Zchar, ReferenceTree, ArgTree}
 use Rattle.mmeaning.proofs.MeaningWords.{CommandTree, LineTree, line_in, opening, replies, Text, Node, Locals, Given, no_locals, assigned_to, State, Outcome}
-use Rattle.mmeaning.proofs.MeaningWords.{Act, ◌>>=◌, fail, Evaluated, Calls, Depth, through, finds, inside, Completion, Position, top_level, Turning, Texts}
+use Rattle.mmeaning.proofs.MeaningWords.{Act, ◌>>=◌, fail, Evaluated, evaluated, Depth, finds, inside, Completion, Position, top_level, Turning, Texts}
 use Rattle.mmeaning.proofs.MeaningWords.{Context, texts, arguments, commands, after_turn, after_level, closed, stays, commands_of, Account, Settings, Session}
 use Rattle.mmeaning.proofs.MeaningWords.{World, Event, Reply, plan_of, begun, session_or_new, ended, refused, is_too_long, is_ascii, checked, at_account}
 use Rattle.mmeaning.proofs.MeaningWords.{normal, Cursor}
@@ -108,7 +108,8 @@ step_is_shut settings e world = at_account_is_shut settings e world (get setting
 language_is : (a : Account) → language_of (get (settings_of a).terminals 1) ≡ a.language
 language_is a = ap language_of (get-insert nat_cmp_total empty 1 a 1)
 
-pub line_is : (a : Account) (world : World) (t : Text) (l : Option LineTree) → line_in a.language t ≡ l → normal (settings_of a) (event t) world ≡ shut_step (settings_of a) (event t) l world
+pub line_is : (a : Account) (world : World) (t : Text) (l : Option LineTree) → line_in a.language t ≡ l
+    → normal (settings_of a) (event t) world ≡ shut_step (settings_of a) (event t) l world
 line_is a world t l e =
     step_is_shut (settings_of a) (event t) world ∙ ap (λ l. shut_step (settings_of a) (event t) l world) (ap (λ n. line_in n t) (language_is a) ∙ e)
 
@@ -174,13 +175,13 @@ list_opened a zero p args locals naked test cursor out steps given = refl
 list_opened a (suc n) p args locals naked test cursor out steps given = refl
 
 -- what a text names is found if the state is known, too
-abbrev pub found : Text → ℕ → Calls → Depth → ReferenceTree → ExprsTree → Act Evaluated
-found a zero calls d r subscripts = fail Zsteps
-found a (suc n) calls d r subscripts = through (inside a n d) calls r subscripts
+abbrev pub found : Text → ℕ → Depth → ReferenceTree → Act Evaluated
+found a zero d r = fail Zsteps
+found a (suc n) d r = evaluated (inside a n d) r
 
-pub name_found : (a : Text) (n : ℕ) (calls : Calls) (d : Depth) (r : ReferenceTree) (subscripts : ExprsTree) → Opens (finds a n calls d r subscripts) (found a n calls d r subscripts)
+pub name_found : (a : Text) (n : ℕ) (d : Depth) (r : ReferenceTree) → Opens (finds a n d r) (found a n d r)
 unfolding finds
-name_found a zero calls d r subscripts locals naked test cursor out steps given = refl
-name_found a (suc n) calls d r subscripts locals naked test cursor out steps given = refl
+name_found a zero d r locals naked test cursor out steps given = refl
+name_found a (suc n) d r locals naked test cursor out steps given = refl
 
 pub ruleset turns = (opened)

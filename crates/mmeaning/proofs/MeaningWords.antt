@@ -47,7 +47,7 @@ unfoldable pub use Rattle.mgrammar.specs.ReadingWords.{list_at, many, name_at}
 pub use Rattle.mgrammar.specs.RoutineLine.{RoutineLineTree, dots_of, spaced_out}
 unfoldable pub use Rattle.mgrammar.specs.RoutineLine.{formals_at, label_at}
 pub use Rattle.mmeaning.specs.Calls.{Did, Ends, FailedBy, Follows, Gave, Here, IsCut, MayLose, Standing, ops_of}
-pub use Rattle.mmeaning.specs.Expression.{Calls, Depth, Inside, evaluated, inside, is_indirection_free, through, value}
+pub use Rattle.mmeaning.specs.Expression.{Calls, Depth, Inside, evaluated, inside, is_indirection_free, value}
 unfoldable pub use Rattle.mmeaning.specs.Expression.{finds}
 pub use Rattle.mmeaning.specs.Frames.{Enough, Levels, MovedAs, MovedOn, Rests, View, frame, left}
 pub use Rattle.mmeaning.specs.History.{opening, replies, world_after}

@@ -57,7 +57,7 @@ fits m n x (Rests p cs) le h = omega arith
 fits m n x (Lists p args) le h = omega arith
 fits m n x (Turns p t) le h = omega arith
 fits m n x (Levels p c) le h = omega arith
-fits m n x (Programs p ops k st) le h = omega arith
+fits m n x (Programs p d ops k st) le h = omega arith
 fits m n x (Conditions p c rest) le h = omega arith
 
 -- a frame may enter at least as many texts as there are steps
@@ -66,7 +66,7 @@ fits_within m x (Rests p cs) h = h
 fits_within m x (Lists p args) h = omega arith
 fits_within m x (Turns p t) h = omega arith
 fits_within m x (Levels p c) h = h
-fits_within m x (Programs p ops k st) h = omega arith
+fits_within m x (Programs p d ops k st) h = omega arith
 fits_within m x (Conditions p c rest) h = omega arith
 
 pub enough : (m n : ℕ) (fs : List View) (ns : List ℕ) → m ≤ n → Enough n fs ns → Enough m fs ns

@@ -9,12 +9,14 @@ use Rattle.mgrammar.specs.Grammar.{operand}
 use Rattle.mspec.specs.Code.{M4}
 use Rattle.mgrammar.proofs.ShortTrees.{plain, only, named, the_one}
 use Rattle.mmeaning.specs.Programs.{one_value, Op, Operand, Tail, Spend, Sign, Join, Match_not, Values, Add, Function, Begin, Actual, Hand, Call, Where}
-use Rattle.mmeaning.specs.Programs.{Prepare, Local, Global, Naked, Extended, Named, Read, Data, Resolve, Get, Walk, Order, Unless, Pass, Refuse, Ending, Assign}
+use Rattle.mmeaning.specs.Programs.{Prepare, Local, Global, Naked, Extended, Named, Deeper, Attach, Read, Data, Resolve, Get, Walk, Order, Unless, Pass}
+use Rattle.mmeaning.specs.Programs.{Refuse, Ending, Assign}
 use Rattle.mmeaning.specs.Programs.{Tell_name, Seek, Query, Show}
 use Rattle.mmeaning.specs.Programs.{Run}
 use Rattle.mmeaning.specs.Programs.{Return, Enter, Program, calls, begun, program_of}
+use Rattle.mgrammar.specs.Grammar.{merge_argument}
 use Rattle.mmeaning.proofs.MeaningWords.{kill_argument, lock_argument, anew}
-use Rattle.mmeaning.specs.Programs.{Targets, Target, Part, Names, Name, Numbers, Number, Kill, Lock, Indirect, of_parameter}
+use Rattle.mmeaning.specs.Programs.{Targets, Target, Part, Names, Name, Numbers, Number, Kill, Merge, Lock, Indirect, of_parameter}
 
 -- those of the arguments that a text has, in a language that has calls everywhere
 abbrev programs : FormTree → Text → Option (List (Option Program))
@@ -97,6 +99,8 @@ record Programs : Type 0 where
       ≡ one_of (Targets ∷ Values ∷ Local (codes "A") ∷ Values ∷ called (codes "F") (Add ∷ Part (codes "P")
       ∷ Operand (plain (number (codes "1"))) ∷ [])) Assign
   removed : programs kill_argument (codes "A($$F)") ≡ one_of (Values ∷ called (codes "F") (Add ∷ Local (codes "A") ∷ [])) Kill
+  copied : programs merge_argument (codes "A($$F)=B($$G)")
+      ≡ one_of (Values ∷ called (codes "F") (Add ∷ Local (codes "A") ∷ Values ∷ called (codes "G") (Add ∷ Local (codes "B") ∷ []))) Merge
   held : programs lock_argument (codes "A:$$F") ≡ one_of (Names ∷ Values ∷ Local (codes "A") ∷ Name ∷ called (codes "F") []) (Lock anew true)
   of_a_text : programs write_argument (codes "@$$F") ≡ one_of (called (codes "F") []) (Indirect write_argument)
   -- a parameter of FOR becomes a number before the next of its values is evaluated, unless it is one value
@@ -105,8 +109,9 @@ record Programs : Type 0 where
   up_to : of_parameter (until the_one the_one (calling (codes "F"))) []
       ≡ Numbers ∷ Operand (plain (number (codes "1"))) ∷ Number ∷ Operand (plain (number (codes "1"))) ∷ Number ∷ called (codes "F") (Number ∷ [])
   only_once : of_parameter (once (calling (codes "F"))) [] ≡ called (codes "F") []
-  -- there is none yet for a call in the subscripts after an indirection
-  none_yet : map (programs write_argument) (codes "@A@($$F)" ∷ codes "1_@A@($$F)" ∷ []) ≡ none ∷ none ∷ []
+  -- the subscripts after an indirection with a call are one indirection deeper
+  after_a_text : programs quit_argument (codes "@A@($$F)")
+      ≡ one_of (Spend ∷ Spend ∷ Values ∷ Local (codes "A") ∷ Read ∷ Deeper ∷ Values ∷ called (codes "F") (Add ∷ Attach ∷ Read ∷ [])) Return
 
 examples : Programs
 unfolding reads_in
@@ -114,6 +119,6 @@ examples = search rules
 
 -- a program pauses at its call, with what comes after it, and with what stands before it on the stack
 pauses : (a : Text) (n : ℕ) (p : Position) (s : State) (k : Ending) (steps : ℕ) (ops : List Op)
-    → begun (context a n p) (Operand (plain (text (codes "x"))) ∷ called (codes "F") (Join join ∷ ops)) k [] (record s { steps = suc (suc steps) })
-    ≡ Done (Gives (calls (at_label (codes "F")) s.test [] (Join join ∷ ops) (one_value (codes "x") ∷ [])) (record s { steps = steps }))
+    → begun (context a n p) p.depth (Operand (plain (text (codes "x"))) ∷ called (codes "F") (Join join ∷ ops)) k [] (record s { steps = suc (suc steps) })
+    ≡ Done (Gives (calls p.depth (at_label (codes "F")) s.test [] (Join join ∷ ops) (one_value (codes "x") ∷ [])) (record s { steps = steps }))
 pauses a n p s k steps ops = refl

@@ -8,12 +8,13 @@ use Rattle.mgrammar.specs.Grammar.{SignTree, special, call, select, extrinsic, T
 use Rattle.mgrammar.specs.Grammar.{matches_not_indirect, ChoicesTree, no_choices, choice, ActualTree, missing_actual, value_actual, name_actual}
 use Rattle.mgrammar.specs.Grammar.{indirect_actual, actuals}
 use Rattle.mgrammar.specs.Functions as functions
-use Rattle.mgrammar.specs.Functions.{data_function, get_function, name_function, order_function, query_function, FunctionTree, of_variable, function_of}
-use Rattle.mgrammar.specs.CallsIn.{has_call, has_call_operand, has_call_primary}
+use Rattle.mgrammar.specs.Functions.{data_function, get_function, increment_function, name_function, order_function, query_function, FunctionTree}
+use Rattle.mgrammar.specs.Functions.{of_variable, function_of}
+use Rattle.mgrammar.specs.CallsIn.{has_call, has_call_operand, has_call_primary, has_call_exprs}
 use Rattle.mmeaning.specs.Expression.{is_bare}
 use Rattle.mmeaning.specs.Programs.{Op, Tail, Operand, Join, Raise, Match, Match_not, Values, Add, Function, Begin, Actual, Hand, Hand_name, Call, Local}
-use Rattle.mmeaning.specs.Programs.{Global, Naked, Extended, Named, Read, Data, Resolve, Get, Walk, Order, Unless, Pass, signed, referred, of_value, of_tails}
-use Rattle.mmeaning.specs.Programs.{Tell_name, Seek, Query, of_tail}
+use Rattle.mmeaning.specs.Programs.{Global, Naked, Extended, Named, Read, Data, Resolve, Get, Walk, Order, Unless, Pass, signed, referred, of_value}
+use Rattle.mmeaning.specs.Programs.{of_tails, Tell_name, Increment, Seek, Query, of_tail, Deeper, Attach}
 use Rattle.mmeaning.specs.Programs.{of_operand, of_primary, of_reference, of_values, of_choices, of_actual, of_actuals}
 
 -- before whatever comes after it
@@ -54,6 +55,8 @@ referred_behind (Some (of_variable data_function most)) first more one next = be
 referred_behind (Some (of_variable get_function most)) first more one next =
     then_behind first (λ ops. Resolve ∷ Values ∷ more (Get ∷ ops)) one
     (then_behind (λ ops. Resolve ∷ Values ∷ ops) (λ ops. more (Get ∷ ops)) (λ ops rest. refl) (before_behind more Get next))
+referred_behind (Some (of_variable increment_function most)) first more one next =
+    then_behind first (λ ops. Values ∷ more (Increment ∷ ops)) one (step_behind _ (λ ops. more (Increment ∷ ops)) (before_behind more Increment next))
 referred_behind (Some (of_variable name_function most)) first more one next =
     then_behind first (λ ops. Values ∷ more (Tell_name ∷ ops)) one (step_behind _ (λ ops. more (Tell_name ∷ ops)) (before_behind more Tell_name next))
 referred_behind (Some (of_variable order_function most)) first more one next =
@@ -115,7 +118,13 @@ mutual
       (before_behind (of_values subscripts) (Global name) (values_behind subscripts))
   reference_behind (naked subscripts) = step_behind _ (λ ops. of_values subscripts (Naked ∷ ops))
       (before_behind (of_values subscripts) Naked (values_behind subscripts))
-  reference_behind (indirect p subscripts) = before_behind (of_primary p) (Named subscripts) (primary_behind p)
+  reference_behind (indirect p subscripts) =
+      cond_behind (has_call_exprs subscripts)
+      (λ ops. of_primary p (Deeper ∷ Values ∷ of_values subscripts (Attach ∷ ops))) (λ ops. of_primary p (Named subscripts ∷ ops))
+      (then_behind (of_primary p) (λ ops. Deeper ∷ Values ∷ of_values subscripts (Attach ∷ ops)) (primary_behind p)
+      (step_behind _ (λ ops. Values ∷ of_values subscripts (Attach ∷ ops))
+      (step_behind _ (λ ops. of_values subscripts (Attach ∷ ops)) (before_behind (of_values subscripts) Attach (values_behind subscripts)))))
+      (before_behind (of_primary p) (Named subscripts) (primary_behind p))
   reference_behind (extended e name subscripts) =
       then_behind (of_value e) (λ ops. Values ∷ of_values subscripts (Extended name ∷ ops)) (value_behind e)
       (step_behind _ (λ ops. of_values subscripts (Extended name ∷ ops)) (before_behind (of_values subscripts) (Extended name) (values_behind subscripts)))

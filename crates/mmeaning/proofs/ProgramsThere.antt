@@ -2,7 +2,7 @@
 -- An argument with a call has a program, if each call in it stands where steps are.
 use Rattle.mmeaning.proofs.MeaningWords.{◌≡◌, Bool, true, false, List, Some, None, refl, sym, assign, formats, coded}
 use Rattle.mmeaning.proofs.MeaningWords.{shown, kill_one, new_one, tested, loop, do_one, go_to, executed, locked, indirect_args}
-use Rattle.mgrammar.specs.Grammar.{kill_others, new_others, hang_for, returned}
+use Rattle.mgrammar.specs.Grammar.{kill_others, new_others, hang_for, returned, merge_one}
 use Rattle.mmeaning.specs.Programs.{Op, Ending, Program, program_if}
 use Rattle.mmeaning.specs.ProgramLaws.{ProgramsAreThere}
 
@@ -32,4 +32,5 @@ programs_are_there (executed e c) has is = there _ _ _ is
 programs_are_there (locked k names t) has is = there _ _ _ is
 programs_are_there (hang_for e) has is = there _ _ _ is
 programs_are_there (returned e) has is = there _ _ _ is
+programs_are_there (merge_one target source) has is = there _ _ _ is
 programs_are_there (indirect_args f p) has is = there _ _ _ is

@@ -17,13 +17,15 @@ use Rattle.mgrammar.specs.CallsIn.{has_call, has_call_tail, has_call_operand, ha
 use Rattle.mgrammar.specs.CallsIn.{has_call_target, has_call_destination, has_call_locked, has_call_actual, has_call_actuals}
 use Rattle.mmeaning.specs.Operators.{as_number, as_truth}
 use Rattle.mmeaning.specs.Functions.{as_whole}
-use Rattle.mmeaning.specs.Variables.{writing, resolve, kill_at, named_lock}
-use Rattle.mmeaning.specs.Expression.{an_indirection_free, is_bare, named_by, tail_value, operand_value, primary_value, values, optional_value}
+use Rattle.mmeaning.specs.Variables.{with_more, writing, resolve, kill_at, named_lock}
+use Rattle.mmeaning.specs.Expression.{indirected, an_indirection_free, is_bare, named_by, attached, tail_value, operand_value, primary_value, values}
+use Rattle.mmeaning.specs.Expression.{optional_value}
 use Rattle.mmeaning.specs.Locking.{locking, lock_names, names_of, carried, told}
+use Rattle.mmeaning.specs.Merging.{merge_found, merging}
 use Rattle.mmeaning.specs.Parameters.{handed, all_handed, handed_over}
 use Rattle.mmeaning.specs.LineMeaning.{Prepared, whole, partial, prepared, all_prepared, targets, all_assigned, showing, tabbing, formatting, coded_character}
 use Rattle.mmeaning.specs.LineMeaning.{coding, killing, Returns, returning, holds, where_true, testing, number_of, hanging}
-use Rattle.mmeaning.proofs.Uncalled.{neither, finds_alike, named_same, value_same, tail_same, operand_same, primary_same, reference_same, values_same}
+use Rattle.mmeaning.proofs.Uncalled.{neither, value_same, tail_same, operand_same, primary_same, reference_same, values_same}
 
 module _ (a : Text) (n : ℕ) (d : Depth) (calls : Calls) where
   -- as where no function is called
@@ -31,25 +33,26 @@ module _ (a : Text) (n : ℕ) (d : Depth) (calls : Calls) where
   Plain {A} p = ◌≡◌ {A = Act A} (p (record (inside a n d) { calls = calls })) (p (inside a n d))
 
   pub value_plain : (e : ExprTree) → has_call e ≡ false → Plain (λ i. value i e)
-  value_plain e h = value_same a d (finds a n) (finds_alike a n) calls (inside a n d).calls e h
+  value_plain e h = value_same a (finds a n) calls (inside a n d).calls d e h
 
   pub primary_plain : (p : PrimaryTree) → has_call_primary p ≡ false → Plain (λ i. primary_value i p)
-  primary_plain p h = primary_same a d (finds a n) (finds_alike a n) calls (inside a n d).calls p h
+  primary_plain p h = primary_same a (finds a n) calls (inside a n d).calls d p h
 
   pub operand_plain : (o : OperandTree) → has_call_operand o ≡ false → Plain (λ i. operand_value i o)
-  operand_plain o h = operand_same a d (finds a n) (finds_alike a n) calls (inside a n d).calls o h
+  operand_plain o h = operand_same a (finds a n) calls (inside a n d).calls d o h
 
   pub tail_plain : (x : Text) (s : TailTree) → has_call_tail s ≡ false → Plain (λ i. tail_value i x s)
-  tail_plain x s h = tail_same a d (finds a n) (finds_alike a n) calls (inside a n d).calls x s h
+  tail_plain x s h = tail_same a (finds a n) calls (inside a n d).calls d x s h
 
   pub reference_plain : (r : ReferenceTree) → has_call_reference r ≡ false → Plain (λ i. evaluated i r)
-  reference_plain r h = reference_same a d (finds a n) (finds_alike a n) calls (inside a n d).calls r h
+  reference_plain r h = reference_same a (finds a n) calls (inside a n d).calls d r h
 
-  pub named_plain : (es : ExprsTree) (x : Text) → has_call_exprs es ≡ false → Plain (λ i. named_by i es x)
-  named_plain es x h = named_same a d (finds a n) (finds_alike a n) calls (inside a n d).calls es x h
+  pub attached_plain : (es : ExprsTree) (x : Text) → has_call_exprs es ≡ false → Plain (λ i. attached i es x)
+  attached_plain es x h = λ j. named_by (inside a n d) x >>= (λ v.
+      values_same a (finds a n) calls (inside a n d).calls (indirected d) [] es h j >>= (λ xs. give (with_more xs v)))
 
   pub values_plain : (xs : List Text) (es : ExprsTree) → has_call_exprs es ≡ false → Plain (λ i. values i xs es)
-  values_plain xs es h = values_same a d (finds a n) (finds_alike a n) calls (inside a n d).calls xs es h
+  values_plain xs es h = values_same a (finds a n) calls (inside a n d).calls d xs es h
 
   -- ---- conditions and numbers
 
@@ -94,7 +97,8 @@ module _ (a : Text) (n : ℕ) (d : Depth) (calls : Calls) where
 
   tabbing_plain : (o : Option ExprTree) → has_call_optional o ≡ false → Plain (λ i. tabbing i o)
   tabbing_plain None h = refl
-  tabbing_plain (Some e) h = λ j. value_plain e h j >>= (λ x. as_whole x >>= (λ k. unless Zarg (is_column k) >> (cursor_is >>= (λ c. write (spaces_to k c.column)))))
+  tabbing_plain (Some e) h =
+      λ j. value_plain e h j >>= (λ x. as_whole x >>= (λ k. unless Zarg (is_column k) >> (cursor_is >>= (λ c. write (spaces_to k c.column)))))
 
   pub formatting_plain : (run : List ℕ) (o : Option ExprTree) → has_call_optional o ≡ false → Plain (λ i. formatting i run o)
   formatting_plain run o h = λ j. write_formats run >> tabbing_plain o h j
@@ -116,6 +120,13 @@ module _ (a : Text) (n : ℕ) (d : Depth) (calls : Calls) where
   pub returning_plain : (e : ExprTree) → has_call e ≡ false → Plain (λ i. returning i e)
   returning_plain e h = λ j. value_plain e h j >>= (λ x. give (Returns x))
 
+  -- ---- MERGE
+
+  pub merging_plain : (target source : ReferenceTree) → has_call_reference target || has_call_reference source ≡ false → Plain (λ i. merging i target source)
+  merging_plain target source h =
+      let m = neither (has_call_reference target) (has_call_reference source) h in
+      λ j. reference_plain target m.0 j >>= (λ v. reference_plain source m.1 j >>= (λ w. merge_found v w))
+
   -- ---- LOCK
 
   names_plain : (ns : List LockName) (rs : List ReferenceTree) → list_any has_call_reference rs ≡ false → Plain (λ i. lock_names i ns rs)
@@ -128,7 +139,8 @@ module _ (a : Text) (n : ℕ) (d : Depth) (calls : Calls) where
   in_names (lock_one r) h = rw h refl
   in_names (lock_several rs) h = h
 
-  pub locking_plain : (k : LockKindTree) (t : LockedTree) (o : Option ExprTree) → has_call_locked t || has_call_optional o ≡ false → Plain (λ i. locking i k t o)
+  pub locking_plain : (k : LockKindTree) (t : LockedTree) (o : Option ExprTree) → has_call_locked t || has_call_optional o ≡ false
+      → Plain (λ i. locking i k t o)
   locking_plain k t o h =
       let m = neither (has_call_locked t) (has_call_optional o) h in
       λ j. names_plain [] (names_of t) (in_names t m.0) j >>= (λ ns. optional_plain o m.1 j >>= (λ x. carried k ns >>= (λ b. told x b)))
@@ -139,7 +151,8 @@ module _ (a : Text) (n : ℕ) (d : Depth) (calls : Calls) where
   handed_plain missing_actual h = refl
   handed_plain (value_actual e) h = λ j. value_plain e h j >>= (λ x. give (valued x))
   handed_plain (name_actual name) h = refl
-  handed_plain (indirect_actual p) h = λ j. primary_plain p h j >>= (λ x. an_indirection_free d >> (give_some Zsyntax (name_of x) >>= (λ name. give (linked_to name))))
+  handed_plain (indirect_actual p) h =
+      λ j. primary_plain p h j >>= (λ x. an_indirection_free d >> (give_some Zsyntax (name_of x) >>= (λ name. give (linked_to name))))
 
   all_handed_plain : (bs : List Binding) (xs : ActualsTree) → has_call_actuals xs ≡ false → Plain (λ i. all_handed i bs xs)
   all_handed_plain bs no_actuals h = refl

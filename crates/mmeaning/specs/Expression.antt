@@ -24,7 +24,7 @@ use Rattle.mspec.specs.Code.{M4, Zdepth, Zsteps, Zsyntax}
 use Rattle.mspec.specs.Act.{Text, Act, ◌>>=◌, ◌>>◌, give, read_so, fail, give_some, unless, charge}
 use Rattle.mmeaning.specs.Operators.{as_text, as_truth, unaries, binary, raising, matching}
 use Rattle.mmeaning.specs.Functions.{call_value}
-use Rattle.mmeaning.specs.Variables.{Evaluated, of_local, of_global, of_naked, subscripts_of, with_subscripts, reading, resolve, read_at, referring}
+use Rattle.mmeaning.specs.Variables.{Evaluated, of_local, of_global, of_naked, with_more, reading, resolve, read_at, referring}
 use Rattle.mmeaning.specs.Variables.{special_value}
 
 -- how deep a text stands: the levels that are open, of which some are indirections under evaluation; and whether a value is wanted of its
@@ -58,20 +58,23 @@ is_bare (actuals missing_actual no_actuals) = true
 is_bare xs = false
 
 -- where an expression stands: whose line it belongs to, how deep it is, what functions give, and what evaluates, at a given depth, the
--- variable that a text names, which is no part of the tree, with the subscripts after it, which may call functions as the tree may, once
--- the step of its operand is spent
+-- variable that a text names, which is no part of the tree, once the step of its operand is spent
 pub record Inside : Type 0 where
   pub account : Text
   pub depth : Depth
   pub calls : Calls
-  pub find : Calls → Depth → ReferenceTree → ExprsTree → Act Evaluated
+  pub find : Depth → ReferenceTree → Act Evaluated
 
--- what the variable that a text names has to evaluate, and the subscripts after it; the text is read in the line's language
-abbrev pub named_by : Inside → ExprsTree → Text → Act Evaluated
-named_by i subscripts x = do
+-- one indirection deeper, as the subscripts after an indirection are
+abbrev pub one_deeper : Inside → Inside
+one_deeper i = record i { depth = indirected i.depth }
+
+-- what the variable that a text names has to evaluate; the text is read in the line's language
+abbrev pub named_by : Inside → Text → Act Evaluated
+named_by i x = do
   an_indirection_free i.depth
   r ← read_so Zsyntax (λ l. ref_in l x)
-  i.find i.calls (indirected i.depth) r subscripts
+  i.find (indirected i.depth) r
 
 -- whether a value matches the pattern that a text is, which has nothing to evaluate; it counts as an indirection all the same
 abbrev pub matches_text : Inside → Text → Text → Act Bool
@@ -159,7 +162,9 @@ abbrev mutual
     give (of_naked xs)
   evaluated i (indirect p subscripts) = do
     x ← primary_value i p
-    named_by i subscripts x
+    v ← named_by i x
+    xs ← values (one_deeper i) [] subscripts
+    give (with_more xs v)
   evaluated i (extended e name subscripts) = do
     owner ← value i e
     xs ← values i [] subscripts
@@ -209,17 +214,17 @@ optional_value i (Some e) = do
   x ← value i e
   give (Some x)
 
--- what a text names: first its own parts, then the subscripts after it, which have calls
-abbrev pub through : Inside → Calls → ReferenceTree → ExprsTree → Act Evaluated
-through i calls r subscripts = do
-  v ← evaluated i r
-  xs ← values (record i { calls = calls }) (subscripts_of v) subscripts
-  give (with_subscripts xs v)
+-- what a text names: first its own parts, then the subscripts after it
+abbrev pub attached : Inside → ExprsTree → Text → Act Evaluated
+attached i subscripts x = do
+  v ← named_by i x
+  xs ← values (one_deeper i) [] subscripts
+  give (with_more xs v)
 
 -- with at most this many texts
-unfoldable pub finds : Text → ℕ → Calls → Depth → ReferenceTree → ExprsTree → Act Evaluated
-finds a zero calls d r subscripts = fail Zsteps
-finds a (suc n) calls d r subscripts = through (record { account = a; depth = d; calls = no_calls; find = finds a n }) calls r subscripts
+unfoldable pub finds : Text → ℕ → Depth → ReferenceTree → Act Evaluated
+finds a zero d r = fail Zsteps
+finds a (suc n) d r = evaluated (record { account = a; depth = d; calls = no_calls; find = finds a n }) r
 
 -- in a line of this account, in which this many texts that are no part of the tree may be entered, and no function is called
 abbrev pub inside : Text → ℕ → Depth → Inside

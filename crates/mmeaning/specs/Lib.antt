@@ -5,6 +5,7 @@ pub mod Variables
 pub mod Expression
 pub mod Courses
 pub mod Locking
+pub mod Merging
 pub mod Levels
 pub mod Parameters
 pub mod LineMeaning

@@ -4,7 +4,7 @@
 -- Restates "Commands" and "Extrinsic function" of ISO/IEC 11756:1999, "Do", "Else", "For", "Goto", "Halt", "Hang", "If", "Kill", "New",
 -- "Quit", "Set", "Write" and "Xecute" among them, and what "Indirection" says of arguments: arguments are done from left to right, each as if
 -- it stood in a command of its own, and those that a text gives as if they stood in its place. A DO without arguments does the lines after
--- its own that have one dot more, and keeps $TEST. LOCK is in Locking. Each text is read in the language that the line is given.
+-- its own that have one dot more, and keeps $TEST. LOCK is in Locking, MERGE in Merging. Each text is read in the language that the line is given.
 use Rattle.std.specs.Prelude.{ℕ, zero, suc, ◌+◌, ℤ, pos, negsuc, ◌+ℤ◌, Bool, true, not, cond, nat_lt, nat_le, ◌==◌, List, [], ◌∷◌, ◌++◌, length, drop, Option}
 use Rattle.std.specs.Prelude.{Some, None, is_none}
 use Rattle.mspec.specs.Number.{sum_of}
@@ -15,9 +15,10 @@ use Rattle.mspec.specs.Cursor.{is_column, spaces_to}
 use Rattle.mspec.specs.Scopes.{Binding, killed_except, newed, newed_except}
 use Rattle.mgrammar.specs.Grammar.{ExprTree, EntryTree, ActualsTree, ReferenceTree, TargetTree, variable, part, DestinationTree, one, several, ParameterTree}
 use Rattle.mgrammar.specs.Grammar.{once, onward, until, KeywordTree, set_word, kill_word, new_word, if_word, else_word, for_word, quit_word, write_word}
-use Rattle.mgrammar.specs.Grammar.{do_word, goto_word, execute_word, lock_word, halt_word, hang_word, halt_or_hang_word, ArgTree, assign, formats, coded}
+use Rattle.mgrammar.specs.Grammar.{do_word, goto_word, execute_word, lock_word, merge_word, halt_word, hang_word, halt_or_hang_word, ArgTree, assign, formats}
+use Rattle.mgrammar.specs.Grammar.{coded}
 use Rattle.mgrammar.specs.Grammar.{shown, kill_one, kill_others, new_one, new_others, tested, loop, do_one, go_to, executed, locked, hang_for, returned}
-use Rattle.mgrammar.specs.Grammar.{indirect_args, FormTree, PrimaryTree, CommandTree, LineTree}
+use Rattle.mgrammar.specs.Grammar.{merge_one, indirect_args, FormTree, PrimaryTree, CommandTree, LineTree}
 use Rattle.mgrammar.specs.Functions.{ValueFunctionTree, FunctionTree, of_values, extract_function, piece_function, function_of}
 use Rattle.mgrammar.specs.Languages.{line_in, routine_line_in, args_in}
 use Rattle.mgrammar.specs.RoutineLine.{formals_of, dots_of}
@@ -31,6 +32,7 @@ use Rattle.mmeaning.specs.Variables.{Evaluated, at_local, writing, resolve, foun
 use Rattle.mmeaning.specs.Expression.{Depth, Inside, inside, an_indirection_free, primary_value, value, values, evaluated}
 pub use Rattle.mmeaning.specs.Expression.{optional_value}
 use Rattle.mmeaning.specs.Locking.{locking}
+use Rattle.mmeaning.specs.Merging.{merging}
 pub use Rattle.mmeaning.specs.Levels.{Level, Position, top_level, Target, Closing, stays, leaves, restores, answers}
 use Rattle.mmeaning.specs.Levels.{target, a_level_free, deeper, within_indirection, closing, commands_of, commands_in}
 use Rattle.mmeaning.specs.Parameters.{bare_list, handed_over, formals_of_target, formals_for, with_formals}
@@ -492,6 +494,7 @@ argument x (executed e c) = where_holds x c (executing x e)
 argument x (locked k names t) = locking (inside_of x) k names t >> give Go_on
 argument x (hang_for e) = hanging (inside_of x) e >> give Go_on
 argument x (returned e) = returning (inside_of x) e
+argument x (merge_one target source) = merging (inside_of x) target source >> give Go_on
 argument x (indirect_args f p) = given x f p
 
 abbrev pub arguments : Context → List ArgTree → Act Completion
@@ -517,6 +520,7 @@ bare x do_word rest = doing_block x
 bare x goto_word rest = give Go_on
 bare x execute_word rest = give Go_on
 bare x lock_word rest = ask Release >> give Go_on
+bare x merge_word rest = give Go_on
 bare x halt_word rest = fail Halting
 bare x hang_word rest = give Go_on
 bare x halt_or_hang_word rest = fail Halting

@@ -17,22 +17,25 @@ use Rattle.mgrammar.specs.Grammar.{local, global, naked, indirect, extended, Exp
 use Rattle.mgrammar.specs.Grammar.{EntryTree, ActualTree, value_actual, indirect_actual, ActualsTree, no_actuals, actuals, TargetTree, variable, part}
 use Rattle.mgrammar.specs.Grammar.{DestinationTree, ParameterTree, once, onward, until, LockKindTree, FormTree, CommandTree}
 use Rattle.mgrammar.specs.Grammar.{ArgTree, assign, formats, coded, shown, kill_one, kill_others, new_one, new_others, tested, loop, do_one, go_to, executed}
-use Rattle.mgrammar.specs.Grammar.{locked, hang_for, returned, indirect_args}
-use Rattle.mgrammar.specs.Functions.{data_function, get_function, name_function, order_function, FunctionTree, of_variable, function_of}
-use Rattle.mgrammar.specs.CallsIn.{has_call, has_call_operand, has_call_primary, has_call_destination}
+use Rattle.mgrammar.specs.Grammar.{locked, hang_for, returned, merge_one, indirect_args}
+use Rattle.mgrammar.specs.Functions.{data_function, get_function, increment_function, name_function, order_function, query_function, FunctionTree}
+use Rattle.mgrammar.specs.Functions.{of_variable, function_of}
+use Rattle.mgrammar.specs.CallsIn.{has_call, has_call_operand, has_call_primary, has_call_destination, has_call_exprs}
 use Rattle.mgrammar.specs.ProgramsIn.{in_steps, in_steps_primary, in_steps_reference, in_steps_optional, in_steps_parameter}
 use Rattle.mgrammar.specs.ProgramsIn.{in_steps_arg}
 use Rattle.mmeaning.specs.Operators.{as_number, as_truth, unaries, binary, raising}
 use Rattle.mmeaning.specs.Functions.{whole_text, whole_at, call_value}
 use Rattle.mmeaning.specs.Variables.{Evaluated, of_local, of_global, of_naked, Place, at_local, reading, ordering, writing, resolve, read_at, read_or}
-use Rattle.mmeaning.specs.Variables.{put_at, status_at, next_at, kill_at, named_lock, data_number, direction_of, named}
-use Rattle.mgrammar.specs.Functions.{query_function}
-use Rattle.mmeaning.specs.Variables.{querying, query_at}
-use Rattle.mmeaning.specs.Expression.{Inside, inside, is_bare, linked_by, named_by, matches_text, tail_value, operand_value}
+use Rattle.mmeaning.specs.Variables.{put_at, status_at, next_at, kill_at, named_lock, data_number, direction_of, added_of, incremented, named}
+use Rattle.mmeaning.specs.Variables.{querying, query_at, with_more}
+use Rattle.mmeaning.specs.Expression.{Inside, inside, is_bare, linked_by, named_by, matches_text, tail_value, operand_value, Depth, indirected}
+use Rattle.mmeaning.specs.Expression.{attached}
 use Rattle.mmeaning.specs.Parameters.{bare_list, handed}
 use Rattle.mmeaning.specs.Levels.{leaves}
 use Rattle.mmeaning.specs.Locking as locks
+use Rattle.mmeaning.specs.Merging.{merge_found}
 use Rattle.mmeaning.specs.LineMeaning.{Completion, Go_on, Returns, Context, Prepared, whole, partial, all_prepared, targets, all_assigned, spaced_to}
+use Rattle.mmeaning.specs.LineMeaning.{at_depth}
 use Rattle.mmeaning.specs.LineMeaning.{character_written, truth_tested, where_true, entering, answer, text_executed, going, given_by}
 use Rattle.mmeaning.specs.LineMeaning.{next_parameter, begin_turn}
 use Rattle.mmeaning.specs.Courses.{Course, last_turn, endless, limited, is_past}
@@ -40,8 +43,8 @@ use Rattle.mmeaning.specs.Courses.{Course, last_turn, endless, limited, is_past}
 -- ---- the stack
 
 -- a value; the values of arguments or of subscripts so far, and the numbers of a parameter of FOR; a reference, and the place that it names,
--- once that is checked for a read, or for $ORDER or for $QUERY; the targets of SET, and the names of LOCK, so far; and what the actuals so far hand over,
--- with what $TEST was before them
+-- once that is checked for a read, or for $ORDER or for $QUERY; the targets of SET, and the names of LOCK, so far; what the actuals so far hand over,
+-- with what $TEST was before them; and what a text names, with how deep that stands, below the subscripts after it
 pub data Item : Type 0 where
   one_value : Text → Item
   some_values : List Text → Item
@@ -53,16 +56,18 @@ pub data Item : Type 0 where
   made : List Prepared → Item
   some_names : List LockName → Item
   handing : Bool → List Binding → Item
+  outside : Depth → Evaluated → Item
 
 -- ---- steps
 
 -- An operand, what is done with a value to the left, an actual, and the targets of SET, of which none has a call in it; the step that a
 -- primary costs; signs, operators, and a pattern that a text is; what brings together values, and what actuals hand over; the call of a
 -- function; a condition, without which the argument ends; and formats of WRITE. What makes a reference of the values of its subscripts, or
--- of the text of an `@` and the subscripts after that, which have no call; its value, and whether it has one; its checks, where more is
--- evaluated before its place is asked; what is then asked of that; and its name, which needs no check. In $SELECT, what passes steps by:
--- those of a value whose condition is false, and those of the choices after the one that is taken. What brings together the targets of SET,
--- if a function is called in them, the names of LOCK, and the numbers of a parameter of FOR. And a code.
+-- of the text of an `@` and the subscripts after that, which have no call; what goes one indirection deeper to those that have one, and what
+-- comes back; its value, and whether it has one; its checks, where more is evaluated before its place is asked; what is then asked of that;
+-- its name, which needs no check; and a number added, for which it is checked last. In $SELECT, what passes steps by: those of a value whose
+-- condition is false, and those of the choices after the one that is taken. What brings together the targets of SET, if a function is called
+-- in them, the names of LOCK, and the numbers of a parameter of FOR. And a code.
 pub data Op : Type 0 where
   Operand : OperandTree → Op
   Tail : TailTree → Op
@@ -88,6 +93,8 @@ pub data Op : Type 0 where
   Naked : Op
   Extended : Text → Op
   Named : ExprsTree → Op
+  Deeper : Op
+  Attach : Op
   Read : Op
   Data : Op
   Resolve : Op
@@ -95,6 +102,7 @@ pub data Op : Type 0 where
   Walk : Op
   Order : Op
   Tell_name : Op
+  Increment : Op
   Seek : Op
   Query : Op
   Unless : ℕ → Op
@@ -109,8 +117,9 @@ pub data Op : Type 0 where
   Refuse : Code → Op
 
 -- what a command does in the end: SET; WRITE of a value, of a column and of a code; IF; a condition of a command; HANG; QUIT; XECUTE; DO,
--- with whether a list of actuals is written; GOTO; KILL; LOCK, with whether there is a timeout; any that does arguments of a text; nothing,
--- which is FOR's as an argument; and the turns of a parameter of FOR, with its index, the parameters after it, and the rest of the line
+-- with whether a list of actuals is written; GOTO; KILL; MERGE; LOCK, with whether there is a timeout; any that does arguments of a text;
+-- nothing, which is FOR's as an argument; and the turns of a parameter of FOR, with its index, the parameters after it, and the rest of the
+-- line
 pub data Ending : Type 0 where
   Assign : Ending
   Show : Ending
@@ -124,6 +133,7 @@ pub data Ending : Type 0 where
   Enter : EntryTree → (is_listed : Bool) → Ending
   Go : EntryTree → Ending
   Kill : Ending
+  Merge : Ending
   Lock : LockKindTree → (is_timed : Bool) → Ending
   Indirect : FormTree → Ending
   Nothing : Ending
@@ -201,7 +211,7 @@ step x (Global name) (some_values vs ∷ st) = on_top st (found (of_global (reco
 step x Naked (some_values vs ∷ st) = on_top st (found (of_naked vs))
 step x (Extended name) (some_values vs ∷ one_value owner ∷ st) = on_top st (found (of_global (record { account = owner; name = name; subscripts = vs })))
 step x (Named subscripts) (one_value v ∷ st) = do
-  r ← named_by (plain x) subscripts v
+  r ← attached (plain x) subscripts v
   on_top st (found r)
 step x Read (found r ∷ st) = do
   v ← resolve reading r >>= read_at
@@ -223,6 +233,9 @@ step x Order (some_values vs ∷ walked p ∷ st) = do
   on_top st (one_value v)
 step x Tell_name (some_values vs ∷ found r ∷ st) = do
   v ← whole_at 0 vs >>= (λ most. named x.account most r)
+  on_top st (one_value v)
+step x Increment (some_values vs ∷ found r ∷ st) = do
+  v ← added_of (slice_get vs 0) >>= (λ by. incremented by r)
   on_top st (one_value v)
 step x Seek (found r ∷ st) = do
   p ← resolve querying r
@@ -291,6 +304,7 @@ ended_by x Run (one_value v ∷ st) = text_executed x v
 ended_by x (Enter e is_listed) (handing b bs ∷ st) = entering x e (listed is_listed) bs leaves
 ended_by x (Go e) st = going x e
 ended_by x Kill (found r ∷ st) = (resolve writing r >>= kill_at) >> give Go_on
+ended_by x Merge (found source ∷ found target ∷ st) = merge_found target source >> give Go_on
 ended_by x (Lock k true) (one_value v ∷ some_names ns ∷ st) = lock_done k ns (Some v) >> give Go_on
 ended_by x (Lock k false) (some_names ns ∷ st) = lock_done k ns None >> give Go_on
 ended_by x (Indirect f) (one_value v ∷ st) = given_by x f v
@@ -304,27 +318,31 @@ abbrev pub going_on : (List Item → Act Completion) → Option (List Item) → 
 going_on rest None = give Go_on
 going_on rest (Some st) = rest st
 
--- once this many steps are passed by
-abbrev pub carried_past : Context → ℕ → List Op → Ending → List Item → Act Completion
-carried_past x n [] k st = ended_by x k st
-carried_past x zero (Unless n ∷ ops) k (one_value v ∷ st) = do
+-- Once this many steps are passed by. The steps are so deep, and the command ends where it stands.
+abbrev pub carried_past : Context → Depth → ℕ → List Op → Ending → List Item → Act Completion
+carried_past x d n [] k st = ended_by x k st
+carried_past x d zero (Unless n ∷ ops) k (one_value v ∷ st) = do
   b ← as_truth v
-  carried_past x (cond b 0 n) ops k st
-carried_past x zero (Pass n ∷ ops) k st = carried_past x n ops k st
-carried_past x zero (o ∷ ops) k st = step x o st >>= going_on (carried_past x 0 ops k)
-carried_past x (suc n) (o ∷ ops) k st = carried_past x n ops k st
+  carried_past x d (cond b 0 n) ops k st
+carried_past x d zero (Pass n ∷ ops) k st = carried_past x d n ops k st
+carried_past x d zero (Deeper ∷ ops) k (one_value v ∷ st) = do
+  r ← named_by (plain (at_depth x d)) v
+  carried_past x (indirected d) 0 ops k (outside d r ∷ st)
+carried_past x d zero (Attach ∷ ops) k (some_values vs ∷ outside c r ∷ st) = carried_past x c 0 ops k (found (with_more vs r) ∷ st)
+carried_past x d zero (o ∷ ops) k st = step (at_depth x d) o st >>= going_on (carried_past x d 0 ops k)
+carried_past x d (suc n) (o ∷ ops) k st = carried_past x d n ops k st
 
--- what is left of a program does, on this stack
-abbrev pub carried : Context → List Op → Ending → List Item → Act Completion
-carried x ops k st = carried_past x 0 ops k st
+-- what is left of a program does, on this stack, if its next step is so deep
+abbrev pub carried : Context → Depth → List Op → Ending → List Item → Act Completion
+carried x d ops k st = carried_past x d 0 ops k st
 
 -- ---- what is done up to where a level opens
 
--- how far a program comes by itself: to its end; to a call of a function, with what is left of the program and of the stack; to the level
--- of a DO or of an XECUTE; to the arguments that a text has; or to the turns of a parameter of FOR, if there is one
+-- how far a program comes by itself: to its end; to a call of a function that is so deep, with what is left of the program and of the stack;
+-- to the level of a DO or of an XECUTE; to the arguments that a text has; or to the turns of a parameter of FOR, if there is one
 pub data Pause : Type 0 where
   over : Completion → Pause
-  calls : EntryTree → Bool → List Binding → List Op → List Item → Pause
+  calls : Depth → EntryTree → Bool → List Binding → List Op → List Item → Pause
   enters : EntryTree → (is_listed : Bool) → List Binding → Pause
   executes : Text → Pause
   lists : FormTree → Text → Pause
@@ -345,18 +363,22 @@ abbrev pub begun_on : (List Item → Act Pause) → Option (List Item) → Act P
 begun_on rest None = give (over Go_on)
 begun_on rest (Some st) = rest st
 
-abbrev pub begun_past : Context → ℕ → List Op → Ending → List Item → Act Pause
-begun_past x n [] k st = end_begun x k st
-begun_past x zero (Call e ∷ ops) k (handing b bs ∷ st) = give (calls e b bs ops st)
-begun_past x zero (Unless n ∷ ops) k (one_value v ∷ st) = do
+abbrev pub begun_past : Context → Depth → ℕ → List Op → Ending → List Item → Act Pause
+begun_past x d n [] k st = end_begun x k st
+begun_past x d zero (Call e ∷ ops) k (handing b bs ∷ st) = give (calls d e b bs ops st)
+begun_past x d zero (Unless n ∷ ops) k (one_value v ∷ st) = do
   b ← as_truth v
-  begun_past x (cond b 0 n) ops k st
-begun_past x zero (Pass n ∷ ops) k st = begun_past x n ops k st
-begun_past x zero (o ∷ ops) k st = step x o st >>= begun_on (begun_past x 0 ops k)
-begun_past x (suc n) (o ∷ ops) k st = begun_past x n ops k st
+  begun_past x d (cond b 0 n) ops k st
+begun_past x d zero (Pass n ∷ ops) k st = begun_past x d n ops k st
+begun_past x d zero (Deeper ∷ ops) k (one_value v ∷ st) = do
+  r ← named_by (plain (at_depth x d)) v
+  begun_past x (indirected d) 0 ops k (outside d r ∷ st)
+begun_past x d zero (Attach ∷ ops) k (some_values vs ∷ outside c r ∷ st) = begun_past x c 0 ops k (found (with_more vs r) ∷ st)
+begun_past x d zero (o ∷ ops) k st = step (at_depth x d) o st >>= begun_on (begun_past x d 0 ops k)
+begun_past x d (suc n) (o ∷ ops) k st = begun_past x d n ops k st
 
-abbrev pub begun : Context → List Op → Ending → List Item → Act Pause
-begun x ops k st = begun_past x 0 ops k st
+abbrev pub begun : Context → Depth → List Op → Ending → List Item → Act Pause
+begun x d ops k st = begun_past x d 0 ops k st
 
 -- ---- the program of a tree
 
@@ -368,6 +390,7 @@ signed (s ∷ ss) ops = Sign (s ∷ ss) ∷ ops
 abbrev pub referred : Option FunctionTree → (List Op → List Op) → (List Op → List Op) → List Op → List Op
 referred (Some (of_variable data_function most)) first more ops = first (Data ∷ ops)
 referred (Some (of_variable get_function most)) first more ops = first (Resolve ∷ Values ∷ more (Get ∷ ops))
+referred (Some (of_variable increment_function most)) first more ops = first (Values ∷ more (Increment ∷ ops))
 referred (Some (of_variable name_function most)) first more ops = first (Values ∷ more (Tell_name ∷ ops))
 referred (Some (of_variable order_function most)) first more ops = first (Walk ∷ Values ∷ more (Order ∷ ops))
 referred (Some (of_variable query_function most)) first more ops = first (Seek ∷ Values ∷ more (Query ∷ ops))
@@ -405,7 +428,8 @@ abbrev mutual
   of_reference (local name subscripts) ops = Values ∷ of_values subscripts (Local name ∷ ops)
   of_reference (global name subscripts) ops = Values ∷ of_values subscripts (Global name ∷ ops)
   of_reference (naked subscripts) ops = Values ∷ of_values subscripts (Naked ∷ ops)
-  of_reference (indirect p subscripts) ops = of_primary p (Named subscripts ∷ ops)
+  of_reference (indirect p subscripts) ops =
+      cond (has_call_exprs subscripts) (of_primary p (Deeper ∷ Values ∷ of_values subscripts (Attach ∷ ops))) (of_primary p (Named subscripts ∷ ops))
   of_reference (extended e name subscripts) ops = of_value e (Values ∷ of_values subscripts (Extended name ∷ ops))
 
   pub of_values : ExprsTree → List Op → List Op
@@ -486,6 +510,8 @@ program_of (locked k names t) =
     program_if (in_steps_arg (locked k names t)) (Names ∷ of_names (locks.names_of names) (of_timeout t [])) (Lock k (is_some t))
 program_of (hang_for e) = program_if (in_steps e) (of_value e []) Wait
 program_of (returned e) = program_if (in_steps e) (of_value e []) Return
+program_of (merge_one target source) =
+    program_if (in_steps_arg (merge_one target source)) (of_reference target (of_reference source [])) Merge
 program_of (indirect_args f p) = program_if (in_steps_primary p) (of_primary p []) (Indirect f)
 
 -- that of a parameter of FOR, before those after it and the rest of the line

@@ -2,12 +2,15 @@
 -- Variables: the checks of a reference, and what is asked of the place that it names.
 --
 -- Restates "Local variable name lvn", "Global variable name gvn", "$DATA", "$GET", "$NAME", "$ORDER", "$QUERY", "$IO", "$JOB", "$PRINCIPAL", "$QUIT",
--- "$STORAGE", "$TEST", "$X" and "$Y" of ISO/IEC 11756:1999, and what "LOCK" says of an nref. A reference is checked once all its subscripts are evaluated.
-use Rattle.std.specs.Prelude.{ℕ, ◌+◌, ◌*◌, ℤ, pos, negsuc, Bool, true, false, cond, ◌&&◌, nat_le, nat_lt, List, [], ◌∷◌, ◌++◌, length, take, Option, Some, None}
+-- "$STORAGE", "$TEST", "$X" and "$Y" of ISO/IEC 11756:1999, and what "LOCK" says of an nref. A reference is checked once all its subscripts are
+-- evaluated. $INCREMENT is not in the standard: it is GT.M's.
+use Rattle.std.specs.Prelude.{ℕ, ◌+◌, ◌*◌, ◌^◌, ℤ, pos, negsuc, Bool, true, false, cond, ◌&&◌, nat_le, nat_lt, List, [], ◌∷◌, ◌++◌, length, take, Option, Some}
+use Rattle.std.specs.Prelude.{None}
 use Rattle.std.specs.Prelude.{unwrap_or, slice_get}
 use Rattle.std.specs.Ordering.{int_eq}
 use Rattle.mspec.specs.Access.{Mode, Read, Write}
 use Rattle.mspec.specs.LockConflict.{LockName}
+use Rattle.mspec.specs.Number.{sum_of}
 use Rattle.mspec.specs.Trees.{Direction, Forward, Backward, front, text_eq}
 use Rattle.mspec.specs.TextFunctions.{max_text, made}
 use Rattle.mspec.specs.Scopes.{is_value, is_above, next_subscript, next_node, killed}
@@ -19,10 +22,10 @@ use Rattle.mspec.specs.Act.{Text, Node, Act, ◌>>=◌, ◌>>◌, give, give_som
 use Rattle.mspec.specs.Act.{terminal_is, test_is, cursor_is, naked_is, set_naked}
 use Rattle.mgrammar.specs.Specials.{SpecialTree, test_special, io_special, job_special, principal_special, storage_special, column_special, row_special}
 use Rattle.mgrammar.specs.Specials.{quit_special}
-use Rattle.mgrammar.specs.Functions.{VariableFunctionTree, data_function, get_function, name_function, order_function, FunctionTree, of_values, of_variable}
-use Rattle.mgrammar.specs.Functions.{query_function, of_choices}
+use Rattle.mgrammar.specs.Functions.{VariableFunctionTree, data_function, get_function, increment_function, name_function, order_function, FunctionTree}
+use Rattle.mgrammar.specs.Functions.{query_function, of_values, of_variable, of_choices}
 use Rattle.mgrammar.specs.NameValues.{subscripts_text, global_text}
-use Rattle.mmeaning.specs.Operators.{outcome}
+use Rattle.mmeaning.specs.Operators.{as_number, as_text, outcome}
 use Rattle.mmeaning.specs.Functions.{whole_text, as_whole, whole_at}
 
 -- ---- references
@@ -44,6 +47,10 @@ abbrev pub with_subscripts : List Text → Evaluated → Evaluated
 with_subscripts xs (of_local name old) = of_local name xs
 with_subscripts xs (of_global n) = of_global (record n { subscripts = xs })
 with_subscripts xs (of_naked old) = of_naked xs
+
+-- and with these after its own
+abbrev pub with_more : List Text → Evaluated → Evaluated
+with_more xs v = with_subscripts (subscripts_of v ++ xs) v
 
 -- one that the checks let through
 pub data Place : Type 0 where
@@ -215,6 +222,31 @@ query_at me d (at_node n) = do
   found ← ask (Following d n)
   found_named (global_text (environment_of me n) n.name) found
 
+-- $INCREMENT: what is added, 1 if nothing is said
+abbrev pub added_of : Option Text → Act ℤ
+added_of None = give (pos (10 ^ 18))
+added_of (Some x) = as_number x
+
+-- a text as a number, with another one added
+abbrev pub increased : Text → ℤ → Act Text
+increased x by = do
+  n ← as_number x
+  as_text (sum_of n by)
+
+-- one read and one put, with no step in between: a place that has no text counts as 0, and gets what is given
+abbrev pub increment_at : ℤ → Place → Act Text
+increment_at by p = do
+  old ← read_or [] p
+  new ← increased old by
+  put_at p new
+  give new
+
+-- the variable is looked up once the number is there, for a write, which lets it be read too
+abbrev pub incremented : ℤ → Evaluated → Act Text
+incremented by v = do
+  p ← resolve writing v
+  increment_at by p
+
 -- A function of the variable that one act gives, and of what another gives, for a line of this account: the checks of the variable come
 -- between.
 abbrev pub variable_function_value : Text → VariableFunctionTree → Act Evaluated → Act (List Text) → Act Text
@@ -228,6 +260,11 @@ variable_function_value me get_function reference more = do
   p ← resolve reading v
   xs ← more
   read_or (unwrap_or (slice_get xs 0) []) p
+variable_function_value me increment_function reference more = do
+  v ← reference
+  xs ← more
+  by ← added_of (slice_get xs 0)
+  incremented by v
 variable_function_value me name_function reference more = do
   v ← reference
   xs ← more

@@ -30,9 +30,12 @@ fn bounds(keyword: Keyword) -> (usize, Option<usize>)
     ensures { result ≡ ((command_row (keyword_tree keyword)).least, (command_row (keyword_tree keyword)).most) }
 {
     match keyword {
-        Keyword::Set | Keyword::Write | Keyword::Goto | Keyword::Execute | Keyword::Hang => {
-            (1, None)
-        }
+        Keyword::Set
+        | Keyword::Write
+        | Keyword::Goto
+        | Keyword::Execute
+        | Keyword::Merge
+        | Keyword::Hang => (1, None),
         Keyword::Kill
         | Keyword::New
         | Keyword::If
@@ -66,6 +69,7 @@ pub fn takes_condition(keyword: Keyword) -> bool
         | Keyword::Goto
         | Keyword::Execute
         | Keyword::Lock
+        | Keyword::Merge
         | Keyword::Halt
         | Keyword::Hang
         | Keyword::HaltOrHang => true,

@@ -13,6 +13,7 @@ use crate::entry::{do_argument, goto_argument, xecute_argument};
 use crate::expr::expr;
 use crate::list::{Items, list};
 use crate::lock_arguments::lock_argument;
+use crate::merge_arguments::merge_argument;
 use crate::scope::{kill_argument, new_argument};
 use crate::set_arguments::set_argument;
 use mforms::takes_args;
@@ -77,6 +78,7 @@ impl Items for Keyword {
             Keyword::Goto => goto_argument(alloc, bytes),
             Keyword::Execute => xecute_argument(alloc, bytes),
             Keyword::Lock => lock_argument(alloc, bytes),
+            Keyword::Merge => merge_argument(alloc, bytes),
             Keyword::Hang | Keyword::HaltOrHang => hang_argument(alloc, bytes),
             Keyword::Quit => quit_argument(alloc, bytes),
             Keyword::Else | Keyword::Halt => Err(ParseFault::Syntax),

@@ -12,6 +12,7 @@ mod indirect;
 mod line;
 mod list;
 mod lock_arguments;
+mod merge_arguments;
 mod operand;
 mod routine_line;
 mod scope;

@@ -4,8 +4,8 @@ use Rattle.std.specs.Prelude.{◌≡◌, ℕ, Option, Some, List}
 use Rattle.mgrammar.specs.Functions.{ValueFunctionTree, ascii_function, char_function, extract_function, find_function, format_number_function}
 use Rattle.mgrammar.specs.Functions.{justify_function, length_function, name_length_function, name_subscript_function, piece_function}
 use Rattle.mgrammar.specs.Functions.{reverse_function, translate_function}
-use Rattle.mgrammar.specs.Functions.{VariableFunctionTree, data_function, get_function, name_function, order_function, FunctionTree, of_values, of_variable}
-use Rattle.mgrammar.specs.Functions.{query_function, of_choices, function_of}
+use Rattle.mgrammar.specs.Functions.{VariableFunctionTree, data_function, get_function, increment_function, name_function, order_function, query_function}
+use Rattle.mgrammar.specs.Functions.{FunctionTree, of_values, of_variable, of_choices, function_of}
 use Rattle.mtree.specs.declared.intrinsic.ValueFunction.{ValueFunction}
 use Rattle.mtree.specs.declared.intrinsic.ValueFunction.TheVariants as values
 use Rattle.mtree.specs.declared.intrinsic.VariableFunction.{VariableFunction}
@@ -30,6 +30,7 @@ value_function_tree values.Translate = translate_function
 abbrev pub variable_function_tree : VariableFunction → VariableFunctionTree
 variable_function_tree variable.Data = data_function
 variable_function_tree variable.Get = get_function
+variable_function_tree variable.Increment = increment_function
 variable_function_tree variable.Name = name_function
 variable_function_tree variable.Order = order_function
 variable_function_tree variable.Query = query_function

@@ -100,6 +100,7 @@ keyword_tree keyword.Do = grammar.do_word
 keyword_tree keyword.Goto = grammar.goto_word
 keyword_tree keyword.Execute = grammar.execute_word
 keyword_tree keyword.Lock = grammar.lock_word
+keyword_tree keyword.Merge = grammar.merge_word
 keyword_tree keyword.Halt = grammar.halt_word
 keyword_tree keyword.Hang = grammar.hang_word
 keyword_tree keyword.HaltOrHang = grammar.halt_or_hang_word
@@ -277,6 +278,7 @@ arg_tree (arg.Executed e c) = grammar.executed (expr_tree e) (condition_tree c)
 arg_tree (arg.Lock k names t) = grammar.locked (kind_tree k) (locked_tree names) (condition_tree t)
 arg_tree (arg.HangFor e) = grammar.hang_for (expr_tree e)
 arg_tree (arg.Returned e) = grammar.returned (expr_tree e)
+arg_tree (arg.MergeOne target source) = grammar.merge_one (reference_tree target) (reference_tree source)
 arg_tree (arg.Indirect k p) = grammar.indirect_args (form_of (keyword_tree k)) (primary_tree p)
 
 abbrev pub command_tree : Command → CommandTree

@@ -113,9 +113,10 @@ fn has_call_reference(reference: &Reference) -> bool
     }
 }
 
+/// Whether a function is called in one of these expressions. Takes no memory.
 #[cycle(calls)]
 #[tactic(auto, using(crate::proofs::CallsFound::either_more))]
-fn has_call_exprs(exprs: &[Expr]) -> bool
+pub fn has_call_exprs(exprs: &[Expr]) -> bool
     ensures { result ≡ has_call_exprs (exprs_of (map expr_tree exprs.now)) }
 {
     let mut found = false;
@@ -283,6 +284,10 @@ pub fn has_call_arg(arg: &Arg) -> bool
         Arg::Lock(_, names, timeout) => either(has_call_locked(names), has_call_optional(timeout)),
         Arg::HangFor(seconds) => has_call(seconds),
         Arg::Returned(value) => has_call(value),
+        Arg::MergeOne(target, source) => either(
+            has_call_reference(target),
+            has_call_reference(source),
+        ),
         Arg::Indirect(_, operand) => has_call_primary(operand),
     }
 }
@@ -373,7 +378,7 @@ fn in_steps_reference(reference: &Reference) -> bool
         Reference::Global(_, subscripts) => in_steps_exprs(subscripts),
         Reference::Naked(subscripts) => in_steps_exprs(subscripts),
         Reference::Indirect(operand, subscripts) => {
-            both(in_steps_primary(operand), !has_call_exprs(subscripts))
+            both(in_steps_primary(operand), in_steps_exprs(subscripts))
         }
         Reference::Extended(environment, _, subscripts) => {
             both(in_steps(environment), in_steps_exprs(subscripts))
@@ -549,6 +554,10 @@ pub(crate) fn in_steps_arg(arg: &Arg) -> bool
         Arg::Lock(_, names, timeout) => both(in_steps_locked(names), in_steps_optional(timeout)),
         Arg::HangFor(seconds) => in_steps(seconds),
         Arg::Returned(value) => in_steps(value),
+        Arg::MergeOne(target, source) => both(
+            in_steps_reference(target),
+            in_steps_reference(source),
+        ),
         Arg::Indirect(_, operand) => in_steps_primary(operand),
     }
 }

@@ -23,6 +23,7 @@ pub enum ValueFunction {
 pub enum VariableFunction {
     Data,
     Get,
+    Increment,
     Name,
     Order,
     Query,

@@ -26,8 +26,8 @@ pub mod write;
 
 pub use brackets::FunctionWord;
 pub use calls::{
-    has_call, has_call_actual, has_call_arg, has_call_destination, has_call_operand,
-    has_call_optional, has_call_parameter, has_call_primary,
+    has_call, has_call_actual, has_call_arg, has_call_destination, has_call_exprs,
+    has_call_operand, has_call_optional, has_call_parameter, has_call_primary,
 };
 pub use count::Count;
 pub use function_word::{ValueWord, VariableWord};

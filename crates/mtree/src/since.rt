@@ -358,6 +358,7 @@ fn since_forms(arg: &Arg) -> u32
         Arg::Lock(_, names, timeout) => later(since_locked(names), since_optional(timeout)),
         Arg::HangFor(seconds) => since_expr(seconds),
         Arg::Returned(value) => since_expr(value),
+        Arg::MergeOne(target, source) => later(since_reference(target), since_reference(source)),
         Arg::Indirect(_, operand) => since_primary(operand),
     }
 }

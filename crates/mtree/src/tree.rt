@@ -310,6 +310,8 @@ pub enum Arg {
     HangFor(Expr),
     /// Of QUIT: its value.
     Returned(Expr),
+    /// Of MERGE: the target, and the source.
+    MergeOne(Reference, Reference),
     /// Argument indirection: the word that the command has, and the operand after an `@`, whose value is the text of arguments.
     Indirect(Keyword, Primary),
 }
@@ -329,6 +331,7 @@ pub enum Keyword {
     Goto,
     Execute,
     Lock,
+    Merge,
     Halt,
     Hang,
     /// `H`: HALT without arguments, and else HANG.
@@ -555,6 +558,7 @@ impl Drop for Arg {
             Arg::Lock(_, _, _) => {}
             Arg::HangFor(_) => {}
             Arg::Returned(_) => {}
+            Arg::MergeOne(_, _) => {}
             Arg::Indirect(_, _) => {}
         }
     }

@@ -53,6 +53,8 @@ pub fn keyword_of(word: &[u8]) -> Option<Keyword>
         Some(Keyword::Execute)
     } else if is_either(word, b"l", b"lock") {
         Some(Keyword::Lock)
+    } else if is_either(word, b"m", b"merge") {
+        Some(Keyword::Merge)
     } else if is_either(word, b"halt", b"halt") {
         Some(Keyword::Halt)
     } else if is_either(word, b"hang", b"hang") {
@@ -81,7 +83,7 @@ pub fn since_keyword(keyword: Keyword, count: usize) -> u32
         | Keyword::Execute
         | Keyword::Lock
         | Keyword::Halt => 0,
-        Keyword::Hang => 1,
+        Keyword::Merge | Keyword::Hang => 1,
         Keyword::Quit | Keyword::HaltOrHang => { if count > 0 { 1 } else { 0 } }
     }
 }
@@ -124,6 +126,8 @@ pub(crate) fn function_row(word: &[u8]) -> Option<(Function, u32)>
         Some((values(ValueFunction::FormatNumber, 2, Some(3)), 1))
     } else if is_either(word, b"g", b"get") {
         Some((variable(VariableFunction::Get, 1), 0))
+    } else if is_either(word, b"i", b"increment") {
+        Some((variable(VariableFunction::Increment, 1), 1))
     } else if is_either(word, b"j", b"justify") {
         Some((values(ValueFunction::Justify, 2, Some(3)), 0))
     } else if is_either(word, b"l", b"length") {

@@ -3,7 +3,7 @@
 ghost use Rattle.std.specs.Prelude.{◌≡◌, ◌++◌, ◌∷◌, [], List, ℕ, IfOk, OnOk, map};
 ghost use Rattle.mgrammar.specs.Grammar.{assign, loop, spell_target, spell_destination, spell_names, spell_parameter, spell_entry, spell_called, spell_kind};
 ghost use Rattle.mgrammar.specs.Grammar.{spell_locked, spell_arg, spell_condition, spell_args, spell_comment, spell_command, spell_commands, spell};
-ghost use Rattle.mgrammar.specs.Grammar.{do_one, go_to, executed, formats, locked, spell_expr, spell_primary, spell_reference};
+ghost use Rattle.mgrammar.specs.Grammar.{do_one, go_to, executed, formats, locked, merge_one, spell_expr, spell_primary, spell_reference};
 ghost use Rattle.mgrammar.specs.RoutineLine.{spell_dots, spell_label, spell_formals, spell_body, spell_routine_line};
 ghost use Rattle.mtree.specs.Tree.{expr_tree, primary_tree, part_tree, target_tree, destination_tree, parameter_tree, entry_tree, called_tree, kind_tree};
 ghost use Rattle.mtree.specs.Tree.{locked_tree, reference_tree, arg_tree, command_tree, spaced_tree, line_tree, condition_tree, formals_tree, body_tree};
@@ -196,6 +196,15 @@ fn put_lock(
     put_condition(out, timeout)
 }
 
+// Of MERGE.
+fn put_merge(out: &mut Bytes7, target: &Reference, source: &Reference) -> Result<(), AllocError>
+    ensures { OnOk result (out.new ≡ out.old ++ spell_arg (merge_one (reference_tree target.now) (reference_tree source.now))) }
+{
+    put_reference(out, target)?;
+    out.push(b'=')?;
+    put_reference(out, source)
+}
+
 // Formats, and a column after a `?`, if there is one.
 fn put_formats(out: &mut Bytes7, run: &Bytes7, tab: &Option<Box<Expr>>) -> Result<(), AllocError>
     ensures { OnOk result (out.new ≡ out.old ++ spell_arg (formats run.now (condition_tree tab.now))) }
@@ -245,6 +254,7 @@ impl Listed for Arg {
             Arg::Lock(kind, names, timeout) => put_lock(out, *kind, names, timeout),
             Arg::HangFor(seconds) => put_expr(out, seconds),
             Arg::Returned(value) => put_expr(out, value),
+            Arg::MergeOne(target, source) => put_merge(out, target, source),
             Arg::Indirect(_, operand) => put_operand(out, operand),
         }
     }

@@ -1,6 +1,6 @@
 // SPDX-License-Identifier: Apache-2.0
 // Lists of subscripts.
-ghost use Rattle.std.specs.Prelude.{◌≡◌, ◌↔◌, ◌<◌, ◌≤◌, [], IsTrue, length};
+ghost use Rattle.std.specs.Prelude.{◌≡◌, ◌↔◌, ◌<◌, ◌≤◌, [], IfOk, IsTrue, length};
 ghost use Rattle.mspec.specs.Limits.{max_subscript};
 ghost use Rattle.mspec.specs.KeyBytes.{IsSubscript, AreSubscripts};
 ghost use Rattle.mspec.specs.Trees.{AreOrderSubscripts};
@@ -9,7 +9,7 @@ use crate::walk::{front, last};
 use mnum::Bytes7;
 use mspec::limits::{MAX_SUBSCRIPT, MAX_SUBSCRIPTS};
 use mvalue::{Kind, Value};
-use std::alloc::Global;
+use std::alloc::{AllocError, Global};
 use std::marker::Model;
 
 /// The subscripts of a node. Contracts see them as a list of texts.
@@ -20,10 +20,13 @@ pub struct Subs {
 
 impl Model for Subs {
     ghost use Rattle.std.specs.Prelude.{List, ℕ};
+    ghost use Rattle.mkey.specs.Front.{AreSubs};
 
     ghost Value = { List (List ℕ) };
 
     ghost view = { λ subs. subs.texts.items };
+
+    ghost invariant = { λ subs. AreSubs subs.texts.items };
 }
 
 impl Subs {
@@ -34,6 +37,23 @@ impl Subs {
         Subs {
             texts: Vec::new(alloc),
         }
+    }
+
+    /// The subscripts as values, first to last.
+    ///
+    /// # Errors
+    ///
+    /// `AllocError` if it runs out of memory.
+    pub fn values(&self, alloc: Global) -> Result<Vec<Value>, AllocError>
+        ensures values { IfOk result (λ values. values.items ≡ self.now) }
+        ensures subs { AreSubscripts self.now }
+    {
+        let texts = self.texts.as_slice();
+        let mut values = Vec::with_capacity(alloc, texts.len())?;
+        for text in texts {
+            values.push(Value::of_text(text.copy()?))?;
+        }
+        Ok(values)
     }
 
     /// The subscripts, first to last. Takes no memory.

@@ -2,6 +2,7 @@
 mod LocalWords
 pub mod Views
 pub mod Stacks
+pub mod OneHome
 pub mod Levels
 pub mod Bound
 pub mod Killed

@@ -27,7 +27,7 @@ home-past f n m (s ∷ ps) bs h =
     home-past f n k ps (s ∷ bs) is ∙ ap (λ b. reverse ps ++ cond b (f k s ∷ bs) (s ∷ at_home f (linked s k) bs)) other ∙ ap (λ j. reverse ps ++ s ∷ at_home f j bs) to)
     ∙ sym (flip-split [] s ps (at_home f m bs))
 
-here : {A : Type 0} (b : Bool) (x y : A) → b ≡ true → cond b x y ≡ x
+pub here : {A : Type 0} (b : Bool) (x y : A) → b ≡ true → cond b x y ≡ x
 here true x y h = refl
 here false x y h = cc
 
@@ -54,7 +54,7 @@ home-at f n m xs bs i d w h e =
     ∙ ap (λ l. reverse (drop (i + 1) xs) ++ l) (here (has (get_or xs i d) m) _ _ (h.1 d)))
 
 -- the scope at the bottom has every name
-bottom_has : (b : Scope) (n : Text) → b.others ≡ Some [] → has b n ≡ true
+pub bottom_has : (b : Scope) (n : Text) → b.others ≡ Some [] → has b n ≡ true
 bottom_has b n e = ap (λ o. is_among b.names n || is_other o n) e ∙ or-true (is_among b.names n)
 
 pub tree-bottom : (n m : Text) (xs : List Scope) (b : Scope) → b.others ≡ Some [] → IsHome n xs None m → tree_of (reverse xs ++ b ∷ []) n ≡ tree_in b m

@@ -47,6 +47,11 @@ IsUnlinkedHome n xs ByLink = ⊤
 abbrev pub bottom_of : NamedTrees → Scope
 bottom_of ts = record { names = []; others = Some []; trees = ts; links = [] }
 
+-- how many scopes lie below the one at a place, if there is one at the bottom
+abbrev pub scopes_below : Option ℕ → ℕ
+scopes_below None = 0
+scopes_below (Some i) = i + 1
+
 -- KILL of all variables that can be seen, except those to which these names lead
 abbrev pub killed_up : List Text → List Scope → List Scope
 killed_up names [] = []

@@ -1,8 +1,8 @@
 // SPDX-License-Identifier: Apache-2.0
 //! The local variables of a session as a stack of scopes.
 ghost use Rattle.std.specs.FinMap.{empty};
-ghost use Rattle.std.specs.Prelude.{◌≡◌, IfOk, OnOk, OnErr, [], ◌∷◌, ◌<◌, ◌+◌, length, drop, option_map, unwrap_or};
-ghost use Rattle.mlocal.specs.Home.{AreFree, IsHome, killed_up};
+ghost use Rattle.std.specs.Prelude.{◌≡◌, ◌==◌, IfOk, OnOk, OnErr, [], ◌∷◌, ◌<◌, ◌+◌, length, drop, option_map, unwrap_or};
+ghost use Rattle.mlocal.specs.Home.{AreFree, IsHome, killed_up, scopes_below};
 ghost use Rattle.mkey.specs.Way.{way};
 ghost use Rattle.mkey.specs.Front.{AreSubs};
 ghost use Rattle.mkey.specs.SubsKey.{behind_below};
@@ -10,7 +10,7 @@ ghost use Rattle.mspec.specs.KeyBytes.{AreSubscripts};
 ghost use Rattle.mlocal.specs.Bindings.{bindings_of};
 ghost use Rattle.mspec.specs.Scopes.{bottom, value_at, is_value, is_above, next_subscript, tree_of, assigned, killed, killed_except, newed};
 ghost use Rattle.mspec.specs.Scopes.{newed_except, with_level, bound, without_level, outermost};
-ghost use Rattle.mspec.specs.Scopes.{next_node};
+ghost use Rattle.mspec.specs.Scopes.{are_one, next_node};
 ghost use Rattle.mspec.specs.Trees.{AreOrderSubscripts, AreQuerySubscripts};
 
 use crate::binding::Binding;
@@ -215,6 +215,18 @@ impl Locals {
             None => Ok(None),
             Some(variable) => variable.following(self.alloc, subs, direction),
         }
+    }
+
+    /// Whether two names lead to one variable. Takes no memory.
+    pub fn are_one(&self, one: &Name, other: &Name) -> bool
+        ensures { result ≡ are_one self.now one.now other.now }
+    {
+        let levels = self.levels.as_slice();
+        let first = home(levels, Some(&self.places), one);
+        let second = home(levels, Some(&self.places), other);
+        let mine = known_as(one, first.1);
+        let theirs = known_as(other, second.1);
+        is_one_place(first.0, second.0) && mine == theirs
     }
 
     /// Gives a node a value, in place of the one that it has.
@@ -440,6 +452,17 @@ impl Locals {
             None => self.bottom.get(known, slot_of(known)),
             Some(place) => self.levels[place].variable(known),
         }
+    }
+}
+
+// Whether both places are the same, or both below all levels.
+fn is_one_place(one: Option<usize>, other: Option<usize>) -> bool
+    ensures { result ≡ (scopes_below one == scopes_below other) }
+{
+    match (one, other) {
+        (None, None) => true,
+        (Some(place), Some(second)) => place == second,
+        _ => false,
     }
 }
 

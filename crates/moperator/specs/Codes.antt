@@ -17,6 +17,7 @@ fault_of code.M13 = spec.Own spec.M13
 fault_of code.M15 = spec.Own spec.M15
 fault_of code.M16 = spec.Own spec.M16
 fault_of code.M17 = spec.Own spec.M17
+fault_of code.M19 = spec.Own spec.M19
 fault_of code.M20 = spec.Own spec.M20
 fault_of code.M28 = spec.Own spec.M28
 fault_of code.M58 = spec.Own spec.M58

@@ -27,6 +27,8 @@ pub enum Code {
     M16,
     /// A function that ends without a value.
     M17,
+    /// MERGE of a node with one above it or below it.
+    M19,
     /// Actuals for a line that has no formal list.
     M20,
     /// An exponent with a fraction.

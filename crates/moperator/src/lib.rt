@@ -26,5 +26,5 @@ pub use code::Code;
 pub use conversions::{number_of, truth_of, whole_of};
 pub use function_calls::call;
 pub use name_texts::{found_name, name_text, other_front, own_front};
-pub use operators::{base_and_exponent, binary, computed, unaries};
+pub use operators::{base_and_exponent, binary, computed, increased, unaries};
 pub use patterns::{matches, pattern_turns};

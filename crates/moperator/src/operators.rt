@@ -2,6 +2,7 @@
 // What the operators of expressions give for operands that are values already.
 ghost use Rattle.std.specs.Prelude.{◌≡◌, ◌||◌, ◌<◌, map, length, ◌++◌, Err, IfErr};
 ghost use Rattle.mmeaning.specs.Operators as meaning;
+ghost use Rattle.mmeaning.specs.Variables as variables;
 ghost use Rattle.mnum.specs.Num.{units};
 ghost use Rattle.mspec.specs.Act.{Text, Act};
 ghost use Rattle.mspec.specs.Interpretations.{is_true, is_whole};
@@ -40,6 +41,18 @@ pub fn computed(outcome: Result<Num, Over>) -> Result<Value, Code>
         Ok(number) => Ok(Value::of_number(number)),
         Err(_) => Err(Code::Zover),
     }
+}
+
+/// A value as a number, with another one added.
+///
+/// # Errors
+///
+/// `Zover` if the number of the value is too large, or the sum.
+pub fn increased(value: &Value, by: Num) -> Result<Value, Code>
+    ensures { Yields fault_of (variables.increased value.now (units by)) (λ value. value) result }
+{
+    let number = number_of(value)?;
+    computed(number.add(by))
 }
 
 // A sign makes a number of its operand, `-` reverses that number's sign, and `'` negates it as a truth.

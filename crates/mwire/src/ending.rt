@@ -40,6 +40,7 @@ fn code_name(code: Code) -> &'static [u8]
         Code::M15 => b"M15",
         Code::M16 => b"M16",
         Code::M17 => b"M17",
+        Code::M19 => b"M19",
         Code::M20 => b"M20",
         Code::M28 => b"M28",
         Code::M58 => b"M58",

@@ -8,23 +8,24 @@ use Rattle.mgrammar.specs.Grammar.{matches_not_indirect, OperandTree, operand, P
 use Rattle.mgrammar.specs.Grammar.{extrinsic, ReferenceTree, local, global, naked, indirect, extended, ExprsTree, no_exprs, exprs, ChoicesTree}
 use Rattle.mgrammar.specs.Grammar.{no_choices, choice, ActualTree, missing_actual, value_actual, name_actual, indirect_actual, ActualsTree}
 use Rattle.mgrammar.specs.Grammar.{no_actuals, actuals, ArgTree, assign, formats, coded, shown, kill_one, kill_others, new_one, new_others, tested, loop}
-use Rattle.mgrammar.specs.Grammar.{do_one, go_to, executed, locked, hang_for, returned, indirect_args}
+use Rattle.mgrammar.specs.Grammar.{do_one, go_to, executed, locked, hang_for, returned, merge_one, indirect_args}
 use Rattle.mgrammar.specs.Functions as functions
-use Rattle.mgrammar.specs.Functions.{data_function, get_function, name_function, order_function, FunctionTree, of_variable, function_of}
+use Rattle.mgrammar.specs.Functions.{data_function, get_function, increment_function, name_function, order_function, query_function, FunctionTree}
+use Rattle.mgrammar.specs.Functions.{of_variable, function_of}
 use Rattle.mgrammar.specs.Grammar.{TargetTree, variable, part, DestinationTree, ParameterTree, once, onward, until}
 use Rattle.mmeaning.specs.LineMeaning.{targets}
 use Rattle.mmeaning.specs.Locking.{names_of}
 use Rattle.mmeaning.specs.Programs.{Targets, Target, Part, Names, Name, Numbers, Number, of_target, of_targets, of_destination, of_names, of_timeout}
 use Rattle.mprogram.specs.Found.{in_target, in_targets, in_destination, in_names, in_timeout, in_number, in_onward, in_parameter}
-use Rattle.mgrammar.specs.CallsIn.{has_call_destination, has_call, has_call_operand, has_call_primary}
+use Rattle.mgrammar.specs.CallsIn.{has_call_destination, has_call, has_call_operand, has_call_primary, has_call_exprs}
 use Rattle.mmeaning.specs.Expression.{is_bare}
 use Rattle.mmeaning.specs.Programs as programs
 use Rattle.mmeaning.specs.Programs.{Op, Spend, Join, Raise, Match, Match_not, Values, Add, Function, Begin, Hand, Hand_name, Call, Where, Formats, Prepare}
-use Rattle.mmeaning.specs.Programs.{Local, Global, Naked, Extended, Named, Read, Data, Resolve, Get, Walk, Order, Tell_name, signed, referred, of_value}
+use Rattle.mmeaning.specs.Programs.{Local, Global, Naked, Extended, Named, Read, Data, Resolve, Get, Walk, Order, Tell_name, Increment, Seek, Query, signed}
+use Rattle.mmeaning.specs.Programs.{referred, of_value}
 use Rattle.mmeaning.specs.Programs.{of_tails, of_tail, of_operand, of_primary, of_reference, of_values, of_choices, of_actual, of_actuals, of_list}
 use Rattle.mprogram.specs.Wholes.{WholeTree, of_argument, of_condition, of_parameter, steps_of, steps_of_argument}
-use Rattle.mgrammar.specs.Functions.{query_function}
-use Rattle.mmeaning.specs.Programs.{Seek, Query}
+use Rattle.mmeaning.specs.Programs.{Deeper, Attach}
 use Rattle.mprogram.specs.Found.{FoundTree, step, past, found_then, found_before, single, both, in_referred, passing_value, passing_choices, in_signs}
 use Rattle.mprogram.specs.Found.{in_value, in_tails, in_tail, in_operand, in_primary, in_reference, in_choices, in_values, in_actual, in_actuals}
 use Rattle.mprogram.specs.Found.{in_list, in_condition, in_argument, in_whole}
@@ -93,6 +94,9 @@ referred_finds (Some (functions.of_values f least most)) first more p q one othe
 referred_finds (Some (of_variable data_function most)) first more p q one other = before_finds first p Data one
 referred_finds (Some (of_variable get_function most)) first more p q one other =
     apart_finds first more p q Resolve Values Get one other
+referred_finds (Some (of_variable increment_function most)) first more p q one other =
+    then_finds first (λ rest. Values ∷ more (Increment ∷ rest)) p (λ left. found_then (single Values left) (λ left. found_then (q left) (single Increment))) one
+    (subscripts_find more q Increment other)
 referred_finds (Some (of_variable name_function most)) first more p q one other =
     then_finds first (λ rest. Values ∷ more (Tell_name ∷ rest)) p (λ left. found_then (single Values left) (λ left. found_then (q left) (single Tell_name))) one
     (subscripts_find more q Tell_name other)
@@ -163,7 +167,18 @@ mutual
   reference_finds (local name subscripts) = subscripts_find (of_values subscripts) (in_values subscripts) (Local name) (values_find subscripts)
   reference_finds (global name subscripts) = subscripts_find (of_values subscripts) (in_values subscripts) (Global name) (values_find subscripts)
   reference_finds (naked subscripts) = subscripts_find (of_values subscripts) (in_values subscripts) Naked (values_find subscripts)
-  reference_finds (indirect p subscripts) = before_finds (of_primary p) (in_primary p) (Named subscripts) (primary_finds p)
+  reference_finds (indirect p subscripts) =
+      cond_finds (has_call_exprs subscripts)
+      (λ rest. of_primary p (Deeper ∷ Values ∷ of_values subscripts (Attach ∷ rest))) (λ rest. of_primary p (Named subscripts ∷ rest))
+      (λ at. found_then (found_then (in_primary p at) (single Deeper)) (λ left. found_then (single Values left) (λ left.
+      found_then (in_values subscripts left) (single Attach))))
+      (λ at. found_then (in_primary p at) (single (Named subscripts)))
+      (then_finds (λ rest. of_primary p (Deeper ∷ rest)) (λ rest. Values ∷ of_values subscripts (Attach ∷ rest))
+      (λ at. found_then (in_primary p at) (single Deeper))
+      (λ left. found_then (single Values left) (λ left. found_then (in_values subscripts left) (single Attach)))
+      (before_finds (of_primary p) (in_primary p) Deeper (primary_finds p))
+      (subscripts_find (of_values subscripts) (in_values subscripts) Attach (values_find subscripts)))
+      (before_finds (of_primary p) (in_primary p) (Named subscripts) (primary_finds p))
   reference_finds (extended e name subscripts) =
       then_finds (λ rest. of_value e (Values ∷ rest)) (λ rest. of_values subscripts (Extended name ∷ rest))
       (λ at. found_then (in_value e at) (single Values)) (λ left. found_then (in_values subscripts left) (single (Extended name)))
@@ -275,6 +290,8 @@ argument_found (locked k names t) at =
     (then_finds (of_names (names_of names)) (of_timeout t) (in_names (names_of names)) (in_timeout t) (names_find (names_of names)) (timeout_finds t)) at []
 argument_found (hang_for e) at = value_finds e at []
 argument_found (returned e) at = value_finds e at []
+argument_found (merge_one target source) at =
+    then_finds (of_reference target) (of_reference source) (in_reference target) (in_reference source) (reference_finds target) (reference_finds source) at []
 argument_found (indirect_args f p) at = primary_finds p at []
 
 -- the step of an argument, of a condition, or of a parameter

@@ -2,7 +2,7 @@
 -- The program of an argument or of a condition has the steps of the whole, and its ending.
 use Rattle.std.proofs.Common.{◌≡◌, Bool, true, false, List, Option, Some, None, refl, sym, ap, ◌∙◌}
 use Rattle.mgrammar.specs.Grammar.{assign, formats, coded, shown, kill_one, kill_others, new_one, new_others, tested, loop, do_one, go_to}
-use Rattle.mgrammar.specs.Grammar.{executed, locked, hang_for, returned, indirect_args}
+use Rattle.mgrammar.specs.Grammar.{executed, locked, hang_for, returned, merge_one, indirect_args}
 use Rattle.mmeaning.specs.Programs.{Op, Ending, Program, program_if}
 use Rattle.mmeaning.proofs.ProgramsThere.{programs_are_there}
 use Rattle.mprogram.specs.StepLaws.{ProgramsHaveSteps, ConditionsHaveSteps, CallsHavePrograms, ConditionsHavePrograms, ParametersHavePrograms}
@@ -37,6 +37,7 @@ programs_have_steps (executed e c) p h = parts _ _ _ p h
 programs_have_steps (locked k names t) p h = parts _ _ _ p h
 programs_have_steps (hang_for e) p h = parts _ _ _ p h
 programs_have_steps (returned e) p h = parts _ _ _ p h
+programs_have_steps (merge_one target source) p h = parts _ _ _ p h
 programs_have_steps (indirect_args f g) p h = parts _ _ _ p h
 
 pub conditions_have_steps : ConditionsHaveSteps

@@ -8,19 +8,19 @@ use Rattle.mgrammar.specs.Grammar.{matches_not_indirect, OperandTree, operand, P
 use Rattle.mgrammar.specs.Grammar.{extrinsic, ReferenceTree, local, global, naked, indirect, extended, ExprsTree, no_exprs, exprs, ChoicesTree}
 use Rattle.mgrammar.specs.Grammar.{no_choices, choice, ActualTree, missing_actual, value_actual, name_actual, indirect_actual, ActualsTree}
 use Rattle.mgrammar.specs.Grammar.{no_actuals, actuals, TargetTree, variable, part, DestinationTree, ArgTree, assign, formats, coded, shown, kill_one}
-use Rattle.mgrammar.specs.Grammar.{tested, do_one, go_to, executed, locked, hang_for, returned, indirect_args, ParameterTree, once, onward, until}
-use Rattle.mgrammar.specs.Functions.{data_function, get_function, name_function, order_function, FunctionTree, of_variable, function_of}
-use Rattle.mgrammar.specs.CallsIn.{has_call, has_call_operand, has_call_primary, has_call_destination}
+use Rattle.mgrammar.specs.Grammar.{tested, do_one, go_to, executed, locked, hang_for, returned, merge_one, indirect_args, ParameterTree, once, onward}
+use Rattle.mgrammar.specs.Grammar.{until}
+use Rattle.mgrammar.specs.Functions.{data_function, get_function, increment_function, name_function, order_function, query_function, FunctionTree}
+use Rattle.mgrammar.specs.Functions.{of_variable, function_of}
+use Rattle.mgrammar.specs.CallsIn.{has_call, has_call_operand, has_call_primary, has_call_destination, has_call_exprs}
 use Rattle.mmeaning.specs.LineMeaning.{targets}
 use Rattle.mmeaning.specs.Locking.{names_of}
 use Rattle.mmeaning.specs.Expression.{is_bare}
 use Rattle.mmeaning.specs.Programs.{Op, Operand, Tail, Spend, Sign, Join, Raise, Match, Match_not, Values, Add, Function, Begin, Actual, Hand, Hand_name}
 use Rattle.mmeaning.specs.Programs.{Call, Where, Formats, Prepare, Local, Global, Naked, Extended, Named, Read, Data, Resolve, Get, Walk, Order, Unless, Pass}
-use Rattle.mmeaning.specs.Programs.{Targets, Target, Part, Names, Name, Numbers, Number}
-use Rattle.mmeaning.specs.Programs.{Tell_name, Refuse, of_value, of_choices}
+use Rattle.mmeaning.specs.Programs.{Targets, Target, Part, Names, Name, Numbers, Number, Tell_name, Increment, Seek, Query, Refuse, of_value}
+use Rattle.mmeaning.specs.Programs.{of_choices, Deeper, Attach}
 use Rattle.mprogram.specs.Wholes.{WholeTree, of_argument, of_condition, of_parameter}
-use Rattle.mgrammar.specs.Functions.{query_function}
-use Rattle.mmeaning.specs.Programs.{Seek, Query}
 
 pub data FoundTree : Type 0 where
   step : Op → FoundTree
@@ -47,6 +47,8 @@ abbrev pub in_referred : Option FunctionTree → (ℕ → FoundTree) → (ℕ �
 in_referred (Some (of_variable data_function most)) first more at = found_then (first at) (single Data)
 in_referred (Some (of_variable get_function most)) first more at =
     found_then (first at) (λ left. found_then (both Resolve Values left) (λ left. found_then (more left) (single Get)))
+in_referred (Some (of_variable increment_function most)) first more at =
+    found_then (first at) (λ left. found_then (single Values left) (λ left. found_then (more left) (single Increment)))
 in_referred (Some (of_variable name_function most)) first more at =
     found_then (first at) (λ left. found_then (single Values left) (λ left. found_then (more left) (single Tell_name)))
 in_referred (Some (of_variable order_function most)) first more at =
@@ -98,7 +100,11 @@ abbrev mutual
   in_reference (local name subscripts) at = found_then (single Values at) (λ left. found_then (in_values subscripts left) (single (Local name)))
   in_reference (global name subscripts) at = found_then (single Values at) (λ left. found_then (in_values subscripts left) (single (Global name)))
   in_reference (naked subscripts) at = found_then (single Values at) (λ left. found_then (in_values subscripts left) (single Naked))
-  in_reference (indirect p subscripts) at = found_then (in_primary p at) (single (Named subscripts))
+  in_reference (indirect p subscripts) at =
+      cond (has_call_exprs subscripts)
+      (found_then (found_then (in_primary p at) (single Deeper)) (λ left. found_then (single Values left) (λ left.
+      found_then (in_values subscripts left) (single Attach))))
+      (found_then (in_primary p at) (single (Named subscripts)))
   in_reference (extended e name subscripts) at =
       found_then (found_then (in_value e at) (single Values)) (λ left. found_then (in_values subscripts left) (single (Extended name)))
 
@@ -176,6 +182,7 @@ in_argument (executed e c) at = found_then (in_condition c at) (in_value e)
 in_argument (locked k names t) at = found_then (single Names at) (λ left. found_then (in_names (names_of names) left) (in_timeout t))
 in_argument (hang_for e) at = in_value e at
 in_argument (returned e) at = in_value e at
+in_argument (merge_one target source) at = found_then (in_reference target at) (in_reference source)
 in_argument (indirect_args f p) at = in_primary p at
 in_argument a at = past at
 

@@ -3,12 +3,13 @@
 -- steps are.
 use Rattle.std.specs.Prelude.{List, [], ◌∷◌, Some, is_some}
 use Rattle.mgrammar.specs.Grammar.{ExprTree, ArgTree, assign, formats, coded, shown, kill_one, tested, do_one, go_to, executed, locked, hang_for, returned}
-use Rattle.mgrammar.specs.Grammar.{indirect_args, loop, ParameterTree, CommandTree}
+use Rattle.mgrammar.specs.Grammar.{merge_one, indirect_args, loop, ParameterTree, CommandTree}
 use Rattle.mspec.specs.Act.{Text}
 use Rattle.mmeaning.specs.Locking.{names_of}
 use Rattle.mmeaning.specs.Programs as programs
-use Rattle.mmeaning.specs.Programs.{Op, Ending, Formats, Begin, Names, Assign, Show, Tab, Character, Test, Hold, Wait, Return, Run, Enter, Go, Kill, Lock}
-use Rattle.mmeaning.specs.Programs.{Indirect, Nothing, Loop, is_list, of_value, of_primary, of_reference, of_destination, of_names, of_timeout, of_list}
+use Rattle.mmeaning.specs.Programs.{Op, Ending, Formats, Begin, Names, Assign, Show, Tab, Character, Test, Hold, Wait, Return, Run, Enter, Go, Kill}
+use Rattle.mmeaning.specs.Programs.{Merge, Lock, Indirect, Nothing, Loop, is_list, of_value, of_primary, of_reference, of_destination, of_names}
+use Rattle.mmeaning.specs.Programs.{of_timeout, of_list}
 
 -- what has steps; a parameter of FOR with the index before it, and the parameters and the rest of the line after it
 pub data WholeTree : Type 0 where
@@ -30,6 +31,7 @@ steps_of_argument (executed e c) = programs.of_condition c (of_value e [])
 steps_of_argument (locked k names t) = Names ∷ of_names (names_of names) (of_timeout t [])
 steps_of_argument (hang_for e) = of_value e []
 steps_of_argument (returned e) = of_value e []
+steps_of_argument (merge_one target source) = of_reference target (of_reference source [])
 steps_of_argument (indirect_args f p) = of_primary p []
 steps_of_argument a = []
 
@@ -47,6 +49,7 @@ ending_of_argument (executed e c) = Run
 ending_of_argument (locked k names t) = Lock k (is_some t)
 ending_of_argument (hang_for e) = Wait
 ending_of_argument (returned e) = Return
+ending_of_argument (merge_one target source) = Merge
 ending_of_argument (indirect_args f p) = Indirect f
 ending_of_argument (loop index parameters) = Nothing
 ending_of_argument a = Hold

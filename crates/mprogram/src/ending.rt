@@ -41,6 +41,7 @@ fn ending_of_arg<'t>(arg: &'t Arg) -> Ending<'t>
         Arg::Lock(kind, _, timeout) => Ending::Lock(*kind, timeout.is_some()),
         Arg::HangFor(_) => Ending::Wait,
         Arg::Returned(_) => Ending::Return,
+        Arg::MergeOne(_, _) => Ending::Merge,
         Arg::Indirect(word, _) => Ending::Indirect(*word),
     }
 }

@@ -68,6 +68,10 @@ pub enum Op<'t> {
     Extended(&'t Name),
     /// To what the text on top names, with these subscripts, in which there is no call.
     Named(&'t [Expr]),
+    /// To what the text on top names, and goes one indirection deeper, to the subscripts after it.
+    Deeper,
+    /// Adds these to the reference below them, and comes back from the indirection.
+    Attach,
     /// Reads the variable of the reference on top.
     Read,
     /// $DATA of the variable of the reference on top.
@@ -82,6 +86,8 @@ pub enum Op<'t> {
     Order,
     /// $NAME of the reference below the values on top.
     TellName,
+    /// $INCREMENT of the reference below the values on top.
+    Increment,
     /// The place of the reference on top, by the checks of $QUERY.
     Seek,
     /// $QUERY of the place below the values on top.
@@ -135,6 +141,8 @@ pub enum Ending<'t> {
     Go(&'t Entry),
     /// KILL.
     Kill,
+    /// MERGE, with the reference of the source on top of that of the target.
+    Merge,
     /// LOCK: how it begins, and whether there is a timeout.
     Lock(LockKind, bool),
     /// The arguments that a text has: the word that the command has.

@@ -17,7 +17,7 @@ use crate::op::{Found, Op};
 use mnum::{Bytes7, Name};
 use mtree::{
     Actual, Called, Choice, Expr, Operand, Primary, Reference, Referring, Sign, Tail, ValueWord,
-    VariableFunction, has_call, has_call_operand, has_call_primary,
+    VariableFunction, has_call, has_call_exprs, has_call_operand, has_call_primary,
 };
 
 // One step.
@@ -184,9 +184,15 @@ pub(crate) fn in_reference<'t>(reference: &'t Reference, at: usize) -> Found<'t>
         Reference::Local(name, subscripts) => in_subscripts(subscripts, Op::Local(name), at),
         Reference::Global(name, subscripts) => in_subscripts(subscripts, Op::Global(name), at),
         Reference::Naked(subscripts) => in_subscripts(subscripts, Op::Naked, at),
-        Reference::Indirect(operand, subscripts) => {
-            primary_then(operand, Op::Named(subscripts), at)
+        Reference::Indirect(operand, subscripts) if has_call_exprs(subscripts) => {
+            let before = primary_then(operand, Op::Deeper, at);
+            subscripts_after(subscripts, Op::Attach, before)
         }
+        Reference::Indirect(operand, subscripts) => primary_then(
+            operand,
+            Op::Named(subscripts),
+            at,
+        ),
         Reference::Extended(environment, name, subscripts) => {
             let before = value_then(environment, Op::Values, at);
             values_after(subscripts, Op::Extended(name), before)
@@ -240,6 +246,18 @@ fn values_after<'t>(exprs: &'t [Expr], op: Op<'t>, before: Found<'t>) -> Found<'
     match before {
         Found::Op(found) => Found::Op(found),
         Found::Past(left) => values_then(exprs, op, left),
+    }
+}
+
+// Of subscripts after a part of which this is found, and then what is made of them.
+#[cycle(steps)]
+fn subscripts_after<'t>(subscripts: &'t [Expr], op: Op<'t>, before: Found<'t>) -> Found<'t>
+    ensures { found_view result ≡ found_then (found_view before.entry) (λ left. found_then (single programs.Values left)
+        (λ left. found_then (in_values (exprs_of (map expr_tree subscripts.now)) left) (single (op_view op.entry)))) }
+{
+    match before {
+        Found::Op(found) => Found::Op(found),
+        Found::Past(left) => in_subscripts(subscripts, op, left),
     }
 }
 
@@ -301,6 +319,7 @@ fn in_referred<'t>(referring: &'t Referring, at: usize) -> Found<'t>
     match referring.word.function() {
         VariableFunction::Data => reference_then(&referring.reference, Op::Data, at),
         VariableFunction::Get => in_checked(referring, Op::Resolve, Op::Get, at),
+        VariableFunction::Increment => in_unchecked(referring, Op::Increment, at),
         VariableFunction::Name => in_unchecked(referring, Op::TellName, at),
         VariableFunction::Order => in_checked(referring, Op::Walk, Op::Order, at),
         VariableFunction::Query => in_checked(referring, Op::Seek, Op::Query, at),

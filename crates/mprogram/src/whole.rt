@@ -224,6 +224,16 @@ fn in_execute<'t>(text: &'t Expr, condition: &'t Option<Box<Expr>>, at: usize) -
     }
 }
 
+// Of MERGE.
+fn in_merge<'t>(target: &'t Reference, source: &'t Reference, at: usize) -> Found<'t>
+    ensures { found_view result ≡ found_then (in_reference (reference_tree target.now) at) (in_reference (reference_tree source.now)) }
+{
+    match in_reference(target, at) {
+        Found::Op(op) => Found::Op(op),
+        Found::Past(left) => in_reference(source, left),
+    }
+}
+
 // Of an argument.
 fn in_arg<'t>(arg: &'t Arg, at: usize) -> Found<'t>
     ensures { found_view result ≡ in_argument (arg_tree arg.now) at }
@@ -246,6 +256,7 @@ fn in_arg<'t>(arg: &'t Arg, at: usize) -> Found<'t>
         Arg::Lock(_, names, timeout) => in_lock(names, timeout, at),
         Arg::HangFor(seconds) => in_value(seconds, at),
         Arg::Returned(value) => in_value(value, at),
+        Arg::MergeOne(target, source) => in_merge(target, source, at),
         Arg::Indirect(_, operand) => in_primary(operand, at),
     }
 }

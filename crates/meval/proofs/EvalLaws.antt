@@ -4,12 +4,12 @@ pub use Rattle.meval.proofs.EvalWords.{Code, Evaluated, IsAccountName, LockName,
 pub use Rattle.meval.proofs.EvalWords.{and_from, ap, append-nil, apply, ap₂, are_subscripts, arith, as_number, at_hand_tree, at_local, at_node, checked}
 pub use Rattle.meval.proofs.EvalWords.{data_act, data_at, data_number, decides_account_name, decides_order_subscripts, decides_subscripts, direction_of}
 pub use Rattle.meval.proofs.EvalWords.{evaluated, expr_tree, exprs_of, fault_of, get_act, get_from, give, give_some, is_above, is_value, length, local, map}
-pub use Rattle.meval.proofs.EvalWords.{name_behind, name_view, named_by, named_lock, nat_tests, next_subscript, nil_from_length, no_exprs, node_named}
+pub use Rattle.meval.proofs.EvalWords.{name_behind, name_view, attached, named_lock, nat_tests, next_subscript, nil_from_length, no_exprs, node_named}
 pub use Rattle.meval.proofs.EvalWords.{node_place, of_global, of_local, of_naked, operand_tree, order_behind, order_from, ordering, own_global, pending_view}
 pub use Rattle.meval.proofs.EvalWords.{place_view, pos, put_at, read_act, read_at, read_or, reading, reference_tree, refl, residual_is, resolve, set_naked}
 pub use Rattle.meval.proofs.EvalWords.{slice_get, standing_of, status_at}
-pub use Rattle.meval.proofs.EvalWords.{status_view, subscripts_of, subst, sym, tail_tree, units, unless, unwrap_or, use_of, values, walk_view, whole_at}
-pub use Rattle.meval.proofs.EvalWords.{whole_text, with_subscripts, yields_gives, ◌++◌, ◌>>=◌, ◌>>◌, ◌∙◌, ◌∷◌, ◌≡◌}
+pub use Rattle.meval.proofs.EvalWords.{status_view, subst, sym, tail_tree, units, unless, unwrap_or, use_of, values, walk_view, whole_at}
+pub use Rattle.meval.proofs.EvalWords.{whole_text, yields_gives, ◌++◌, ◌>>=◌, ◌>>◌, ◌∙◌, ◌∷◌, ◌≡◌}
 unfoldable pub use Rattle.meval.proofs.EvalWords.{value_of}
 pub use Rattle.meval.proofs.Asking.{as_local_place, as_node_place, beside_found, let_in, no_account, own_let_in, writing_reads}
 pub use Rattle.meval.proofs.Calls.{asks_locals, evaluates_failed, evaluates_fails, evaluates_gives, evaluates_refused, evaluates_regrouped, evaluates_seen}

@@ -4,7 +4,7 @@ pub use Rattle.std.proofs.Common.{Bool, Box, Err, Global, List, None, Ok, Option
 pub use Rattle.std.proofs.Common.{rules, subst, suc, sym, take, true, zero, ℕ, ⊎_elim, ◌*◌, ◌++◌, ◌+◌, ◌<◌, ◌∙◌, ◌∷◌, ◌≡◌, ◌≢◌, ◌≤◌}
 pub use Rattle.std.proofs.lemmas.Bool.{and_from, and_parts, false_from_ne_true, false≢true, or_cases, or_left, or_right}
 pub use Rattle.std.proofs.lemmas.Bool.Decides.{nat_tests}
-pub use Rattle.std.proofs.lemmas.List.{append-nil, append_assoc, nil_from_length}
+pub use Rattle.std.proofs.lemmas.List.{append-nil, nil_from_length}
 pub use Rattle.std.specs.Prelude.{IsSome, IsTrue, List, Option, cond, false, pos, slice_get, true, unwrap_or, ℤ, ◌&&◌, ◌==◌, ◌↔◌}
 pub use Rattle.std.specs.Result.{IsErr, IsErrAnd}
 pub use Rattle.mgrammar.specs.Grammar.{ActualTree, ActualsTree, EntryTree, ExprTree, ExprsTree, OperandTree, PrimaryTree, ReferenceTree, TailTree, apply}
@@ -15,15 +15,15 @@ pub use Rattle.mgrammar.specs.Functions.{VariableFunctionTree, data_function, fu
 pub use Rattle.mmeaning.proofs.Calls.{asked, assoc, did_failed, did_gives, did_lost, did_spent, did_then, residual_is}
 pub use Rattle.mmeaning.proofs.Yieldings.{yielded, yielded_so, yields_gives}
 pub use Rattle.mmeaning.specs.Calls.{Did, Ends, FailedBy, Here, Standing, ops_of}
-pub use Rattle.mmeaning.specs.Expression.{Inside, an_indirection_free, chosen, evaluated, indirected, inside, is_indirection_free, named_by, no_calls}
-pub use Rattle.mmeaning.specs.Expression.{operand_value, primary_value, tail_value, tails_value, through, value, values}
+pub use Rattle.mmeaning.specs.Expression.{Inside, an_indirection_free, attached, chosen, evaluated, indirected, inside, is_indirection_free}
+pub use Rattle.mmeaning.specs.Expression.{operand_value, primary_value, tail_value, tails_value, value, values}
 unfoldable pub use Rattle.mmeaning.specs.Expression.{finds}
 pub use Rattle.mmeaning.specs.Operators.{as_number, as_text, as_truth, binary, both_numbers}
 pub use Rattle.mmeaning.specs.Variables.{Evaluated, Place, allowed, at_local, at_node, beside, checked, data_number, direction_of, environment_of, found_at}
 pub use Rattle.mmeaning.specs.Variables.{name_with, named, named_lock, next_at, node_named, node_place, of_global, of_local, of_naked}
 pub use Rattle.mmeaning.specs.Variables.{ordering, put_at, read_at, read_or}
-pub use Rattle.mmeaning.specs.Variables.{reading, referring, replaced, resolve, some_subscript, special_value, status_at, subscripts_of}
-pub use Rattle.mmeaning.specs.Variables.{variable_function_value, with_subscripts}
+pub use Rattle.mmeaning.specs.Variables.{reading, referring, replaced, resolve, some_subscript, special_value, status_at}
+pub use Rattle.mmeaning.specs.Variables.{variable_function_value}
 pub use Rattle.mmeaning.specs.Yields.{Yields}
 pub use Rattle.mmeaning.specs.Functions.{call_value, whole_at, whole_text}
 pub use Rattle.mnum.specs.Num.{units}

@@ -11,6 +11,7 @@ pub mod Locks
 pub mod LocalVariables
 pub mod NodeNames
 pub mod QueryRuns
+pub mod MergeRuns
 pub mod Chains
 pub mod PowerRuns
 pub mod EvalLaws

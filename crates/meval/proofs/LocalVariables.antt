@@ -7,8 +7,9 @@ use Rattle.meval.proofs.EvalWords.{Place, ordering, of_local, at_local, checked,
 use Rattle.meval.proofs.EvalWords.{Code, Eval, Evaluates, direction_act, data_act, get_act, read_act, read_or, unwrap_or, order_from, order_behind, true, List}
 use Rattle.meval.proofs.EvalWords.{VariableFunctionTree, data_function, get_function, name_function, order_function, variable_function_value, name_behind, Text}
 use Rattle.meval.proofs.EvalWords.{ℤ, Option, whole_at, named, most_act}
-use Rattle.mgrammar.specs.Functions.{query_function}
+use Rattle.mgrammar.specs.Functions.{increment_function, query_function}
 use Rattle.mspec.specs.Code as spec
+use Rattle.meval.specs.Counters.{increment_behind}
 use Rattle.meval.specs.Queries.{query_behind}
 use Rattle.moperator.specs.declared.code.Code.TheVariants as code
 use Rattle.meval.proofs.Calls.{evaluates_then, evaluates_failed, evaluates_stopped, evaluates_gives, evaluates_yielded, evaluates_fails}
@@ -65,6 +66,7 @@ module _ {S : Type 0} {g : Ghosts S} where
       → Evaluates g (λ i. variable_function_value i.account f (p i) (values i [] more)) (λ (t : Text). t) old (Err c) new
   function_failed data_function more d = evaluates_failed (λ i v. data_act v) d
   function_failed get_function more d = evaluates_failed (get_act more) d
+  function_failed increment_function more d = evaluates_failed (increment_behind more) d
   function_failed name_function more d = evaluates_failed (name_behind more) d
   function_failed order_function more d = evaluates_failed (order_behind more) d
   function_failed query_function more d = evaluates_failed (query_behind more) d

@@ -2,18 +2,17 @@
 -- What calls of the evaluation do, for acts that the meaning has inside larger ones.
 use Rattle.std.specs.Prelude.{ℤ, pos, Bool, List, Option, [], slice_get, unwrap_or}
 use Rattle.mspec.specs.Trees.{Direction}
-use Rattle.mspec.specs.Act.{Text, Node, Act, ◌>>=◌, ◌>>◌, give, give_some, read_so}
+use Rattle.mspec.specs.Act.{Text, Node, Act, ◌>>=◌, ◌>>◌, give, give_some}
 use Rattle.mgrammar.specs.Grammar.{ExprTree, ExprsTree, OperandTree, PrimaryTree, ReferenceTree}
 use Rattle.mgrammar.specs.Functions.{get_function, name_function, order_function}
 use Rattle.mspec.specs.Code.{Zsyntax}
 use Rattle.mgrammar.specs.IndirectTexts.{pattern_of}
-use Rattle.mgrammar.specs.Languages.{ref_in}
 use Rattle.mmeaning.specs.Operators.{as_number, as_truth, matching}
 use Rattle.mmeaning.specs.Functions.{whole_text, whole_at, call_value}
 use Rattle.mspec.specs.LockConflict.{LockName}
-use Rattle.mmeaning.specs.Variables.{Evaluated, Place, reading, writing, ordering, resolve, named_lock, read_at, read_or, put_at, status_at, next_at}
+use Rattle.mmeaning.specs.Variables.{Evaluated, with_more, Place, reading, writing, ordering, resolve, named_lock, read_at, read_or, put_at, status_at, next_at}
 use Rattle.mmeaning.specs.Variables.{checked, kill_at, data_number, direction_of, named, variable_function_value}
-use Rattle.mmeaning.specs.Expression.{Inside, an_indirection_free, indirected, value, values, operand_value, primary_value, matches_text, evaluated, through}
+use Rattle.mmeaning.specs.Expression.{Inside, value, values, operand_value, primary_value, matches_text, evaluated, attached}
 
 -- whether a value matches the pattern that a text is, if an indirection is free
 abbrev pub matches_read : Text → Text → Act Bool
@@ -27,13 +26,20 @@ matches_act i p x = do
   t ← primary_value i p
   matches_text i x t
 
--- What the variable that a text names has to evaluate, and the subscripts after it, where one text more may be entered than here. It is
--- `named_by` there.
+-- where one text more may be entered than here
+abbrev pub one_more : Inside → Inside
+one_more i = record i { find = λ d r. evaluated (record i { depth = d }) r }
+
+-- what a reference has to evaluate here, and then the subscripts after it, for which one text more may be entered
+abbrev pub through : Inside → ReferenceTree → ExprsTree → Act Evaluated
+through i r subscripts = do
+  v ← evaluated i r
+  xs ← values (one_more i) [] subscripts
+  give (with_more xs v)
+
+-- what the variable that a text names has to evaluate, and the subscripts after it, where one text more may be entered than here
 abbrev pub named_within : Inside → ExprsTree → Text → Act Evaluated
-named_within i subscripts x = do
-  an_indirection_free i.depth
-  r ← read_so Zsyntax (λ l. ref_in l x)
-  through (record i { depth = indirected i.depth }) i.calls r subscripts
+named_within i subscripts x = attached (one_more i) subscripts x
 
 -- whether an expression is true
 abbrev pub truth : Inside → ExprTree → Act Bool

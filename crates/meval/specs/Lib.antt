@@ -6,6 +6,8 @@ pub mod Places
 pub mod Kept
 pub mod Acts
 pub mod Queries
+pub mod Counters
+pub mod Copies
 pub mod Evaluates
 pub mod AtHand
 pub mod Words

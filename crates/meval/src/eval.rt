@@ -248,8 +248,8 @@ impl<'a, S: NodeStore> Eval<'a, S> {
         reference: Reference,
         subscripts: &[Expr],
     ) -> Result<Pending<'u>, Code>
-        ensures { Evaluates S.NodeStore (λ i. meaning.through i i.calls (reference_tree reference) (exprs_of
-            (map expr_tree subscripts.now))) pending_view self.old result self.new }
+        ensures { Evaluates S.NodeStore (λ i. acts.through i (reference_tree reference) (exprs_of (map expr_tree subscripts.now)))
+            pending_view self.old result self.new }
     {
         match reference.into_name() {
             Ok(name) => self.fast_through(alloc, name, subscripts),
@@ -265,8 +265,8 @@ impl<'a, S: NodeStore> Eval<'a, S> {
         reference: &Reference,
         subscripts: &[Expr],
     ) -> Result<Pending<'u>, Code>
-        ensures { Evaluates S.NodeStore (λ i. meaning.through i i.calls (reference_tree reference.now) (exprs_of
-            (map expr_tree subscripts.now))) pending_view self.old result self.new }
+        ensures { Evaluates S.NodeStore (λ i. acts.through i (reference_tree reference.now) (exprs_of (map expr_tree subscripts.now)))
+            pending_view self.old result self.new }
     {
         let front = self.evaluated(alloc, reference)?;
         let values = self.values(alloc, subscripts)?;

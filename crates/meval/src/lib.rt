@@ -2,6 +2,7 @@
 //! The value of an expression, and what commands do with variables.
 #![tactic(auto)]
 
+mod counting;
 mod cursor;
 mod depth;
 mod eval;
@@ -12,6 +13,7 @@ mod globals;
 mod kept;
 mod lock_names;
 mod lookups;
+mod merging;
 mod naming;
 mod open_levels;
 mod owner;

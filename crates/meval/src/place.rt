@@ -1,6 +1,6 @@
 // SPDX-License-Identifier: Apache-2.0
 // Fully evaluated references, and places that the checks let through.
-ghost use Rattle.std.specs.Prelude.{◌≡◌, ◌↔◌, ◌++◌, IsTrue, IsSome, IfSome, IfOk, []};
+ghost use Rattle.std.specs.Prelude.{◌≡◌, ◌↔◌, IsTrue, IsSome, IfSome, IfOk, []};
 ghost use Rattle.mgrammar.specs.Grammar as grammar;
 ghost use Rattle.meval.specs.Words.{AreOrderSubscripts, AreSubscripts, Own, Yields, are_subscripts, bracket, checked, expr_tree, fault_of, operand_tree};
 ghost use Rattle.meval.specs.Words.{ordering};
@@ -51,14 +51,13 @@ impl<'t> Pending<'t> {
         }
     }
 
-    // The same with these subscripts after its own. It needs no tree.
-    pub(crate) fn extended<'u>(
-        self,
-        alloc: Global,
-        values: Values,
-    ) -> Result<Pending<'u>, AllocError>
-        ensures { IfOk result (λ pending. pending_view pending ≡ variables.with_subscripts (variables.subscripts_of (pending_view self.entry) ++ values)
-            (pending_view self.entry)) }
+    /// The same with these subscripts after its own. It needs no tree.
+    ///
+    /// # Errors
+    ///
+    /// `AllocError` if memory runs out.
+    pub fn extended<'u>(self, alloc: Global, values: Values) -> Result<Pending<'u>, AllocError>
+        ensures { IfOk result (λ pending. pending_view pending ≡ variables.with_more values (pending_view self.entry)) }
     {
         match self {
             Pending::Local(name, subscripts) => {

@@ -1,5 +1,6 @@
 // SPDX-License-Identifier: Apache-2.0
-// $DATA, $GET, $NAME and $ORDER of a variable, and $QUERY. Each has a function of its own: a function clears the stack space of all its cases at each call.
+// $DATA, $GET, $INCREMENT, $NAME, $ORDER and $QUERY of a variable. Each has a function of its own: a function clears the stack space of all
+// its cases at each call.
 ghost use Rattle.std.specs.Prelude.{[], map};
 ghost use Rattle.mgrammar.specs.Grammar.{exprs_of};
 ghost use Rattle.mgrammar.specs.Functions.{function_of};
@@ -35,6 +36,11 @@ impl<'a, S: NodeStore> Eval<'a, S> {
         match function {
             VariableFunction::Data => self.data_of(alloc, &referring.reference),
             VariableFunction::Get => self.get_of(alloc, &referring.reference, &referring.more),
+            VariableFunction::Increment => self.increment_of(
+                alloc,
+                &referring.reference,
+                &referring.more,
+            ),
             VariableFunction::Name => self.name_of(alloc, &referring.reference, &referring.more),
             VariableFunction::Order => self.order_of(alloc, &referring.reference, &referring.more),
             VariableFunction::Query => self.query_of(alloc, &referring.reference, &referring.more),

@@ -117,8 +117,8 @@ impl<'a, S: NodeStore> Eval<'a, S> {
         name: Name,
         subscripts: &[Expr],
     ) -> Result<Pending<'u>, Code>
-        ensures { Evaluates S.NodeStore (λ i. meaning.through i i.calls (local name no_exprs) (exprs_of
-            (map expr_tree subscripts.now))) pending_view self.old result self.new }
+        ensures { Evaluates S.NodeStore (λ i. acts.through i (local name no_exprs) (exprs_of (map expr_tree subscripts.now)))
+            pending_view self.old result self.new }
     {
         let values = self.values(alloc, subscripts)?;
         Ok(Pending::Local(VariableName::Own(name), values))
@@ -218,6 +218,7 @@ impl<'a, S: NodeStore> Eval<'a, S> {
         match function {
             VariableFunction::Data => self.fast_data(name, &value),
             VariableFunction::Get => self.fast_get(alloc, name, &value, more),
+            VariableFunction::Increment => self.fast_increment(alloc, name, &value, more),
             VariableFunction::Name => self.fast_name(alloc, name, &value, more),
             VariableFunction::Order => self.fast_order(alloc, name, &value, more),
             VariableFunction::Query => self.fast_query(alloc, name, &value, more),

@@ -73,6 +73,13 @@ impl Values {
         }
     }
 
+    // Copies of these values.
+    pub(crate) fn copies(alloc: Global, values: &[Value]) -> Result<Values, AllocError>
+        ensures { IfOk result (λ copies. copies ≡ values.now) }
+    {
+        Ok(Values::of_vec(copied(alloc, values)?))
+    }
+
     /// The values. Takes no memory.
     pub fn as_slice(&self) -> &[Value]
         ensures { result.now ≡ self.now }

@@ -1,6 +1,6 @@
 -- SPDX-License-Identifier: Apache-2.0
-use Rattle.meval.proofs.EvalLaws.{◌≡◌, ◌∙◌, ◌++◌, length, [], ◌∷◌, map, refl, sym, ap, arith, nat_tests, nil_from_length, apply, exprs_of, named_by, values}
-use Rattle.meval.proofs.EvalLaws.{at_local, of_global, subscripts_of, with_subscripts, resolve, reading, direction_of, residual_is, slice_get, ◌>>=◌, give}
+use Rattle.meval.proofs.EvalLaws.{◌≡◌, ◌∙◌, length, [], ◌∷◌, map, refl, sym, ap, arith, nat_tests, nil_from_length, apply, exprs_of, attached, values}
+use Rattle.meval.proofs.EvalLaws.{at_local, of_global, resolve, reading, direction_of, residual_is, slice_get, ◌>>=◌, give}
 use Rattle.meval.proofs.EvalLaws.{expr_tree, operand_tree, reference_tree, tail_tree, units, read_act, data_act, data_at, get_act, get_from, order_from}
 use Rattle.meval.proofs.EvalLaws.{order_behind, pending_view, walk_view, of_local, of_naked, read_or, unwrap_or, decides_subscripts, read_at, List}
 use Rattle.meval.proofs.EvalLaws.{computed_outcome, evaluates_regrouped, evaluates_then, evaluates_whole, evaluates_failed, evaluates_gives, evaluates_seen}
@@ -13,6 +13,7 @@ use Rattle.meval.proofs.EvalLaws.{variable_is, node_is, local_is, global_is, nak
 use Rattle.meval.proofs.EvalLaws.{bracket_is, call_is, select_is, apply_is, matches_indirect_is, matches_is, matches_not_indirect_is, matches_not_is, raise_is}
 use Rattle.meval.proofs.EvalLaws.{charge_failed, uncalled, from_tail, from_end, next_value, value_failed, values_end, next_choice, is_chosen, not_chosen}
 use Rattle.meval.proofs.EvalLaws.{none_chosen, name_behind, named_as, named_local, named_stopped, whole_at}
+use Rattle.meval.specs.Counters.{increment_by, increment_behind}
 use Rattle.meval.specs.Queries.{query_from, query_behind}
 use Rattle.meval.proofs.QueryRuns.{queried, query_stopped, search_refused, search_through}
 use Rattle.std.proofs.Common.{Ok}
@@ -20,6 +21,8 @@ use Rattle.std.specs.Prelude.{not}
 use Rattle.mspec.specs.Interpretations.{truth_text}
 use Rattle.mmeaning.specs.Expression.{primary_value, matches_text}
 use Rattle.meval.proofs.Indirections.{evaluates_within}
+use Rattle.mmeaning.specs.Variables.{with_more}
+use Rattle.meval.specs.Acts.{one_more}
 use Rattle.mspec.specs.Act.{Text}
 use Rattle.mtree.specs.Functions.{variable_function_tree}
 use Rattle.mtree.specs.Tree.{called_tree}
@@ -266,7 +269,7 @@ extended-returns g t c =
 
 pub named-returns-in_err-value : goal.named-returns-in_err-value
 named-returns-in_err-value g t c =
-    evaluates_stopped (λ i x. named_by i _ x) c.in_err-value.ensures.does c.from_residual.ensures
+    evaluates_stopped (λ i x. attached i _ x) c.in_err-value.ensures.does c.from_residual.ensures
 
 pub named-returns : goal.named-returns
 named-returns g t c = evaluates_entry _ _ _ c.in_ok-value.ensures.does c.in_ok-value.ensures.spent c.named_by.ensures
@@ -298,34 +301,35 @@ through_given-returns-in-Err g t c = rw (sym c.in-Err.ensures.more.1) c.through.
 
 pub fast_through-returns-in_err-values : goal.fast_through-returns-in_err-values
 fast_through-returns-in_err-values g t c =
-    evaluates_stopped (λ i xs. give (of_local c.args.name xs)) c.in_err-values.ensures c.from_residual.ensures
+    evaluates_behind _ (of_local c.args.name []) (evaluates_stopped (λ i xs. give (of_local c.args.name xs)) c.in_err-values.ensures c.from_residual.ensures)
 
 pub fast_through-returns : goal.fast_through-returns
 fast_through-returns g t c =
-    evaluates_then (λ i xs. give (of_local c.args.name xs)) c.in_ok-values.ensures (evaluates_gives _ pending_view _ refl)
+    evaluates_behind _ (of_local c.args.name [])
+    (evaluates_then (λ i xs. give (of_local c.args.name xs)) c.in_ok-values.ensures (evaluates_gives _ pending_view _ refl))
 
 pub through-returns-in_err-front : goal.through-returns-in_err-front
 through-returns-in_err-front g t c =
-    evaluates_stopped (λ i v. values i (subscripts_of v) _ >>= (λ xs. give (with_subscripts xs v))) c.in_err-front.ensures c.from_residual.ensures
+    evaluates_stopped (λ i v. values (one_more i) [] _ >>= (λ xs. give (with_more xs v))) c.in_err-front.ensures c.from_residual.ensures
 
 pub through-returns-in_err-values : goal.through-returns-in_err-values
 through-returns-in_err-values g t c =
     let v = pending_view c.in_ok-front.front in
-    evaluates_then (λ i v. values i (subscripts_of v) _ >>= (λ xs. give (with_subscripts xs v))) c.in_ok-front.ensures
-    (evaluates_behind _ v (evaluates_stopped (λ i ys. give (with_subscripts (subscripts_of v ++ ys) v)) c.in_err-values.ensures c.from_residual-in_err-values.ensures))
+    evaluates_then (λ i v. values (one_more i) [] _ >>= (λ xs. give (with_more xs v))) c.in_ok-front.ensures
+    (evaluates_behind _ v (evaluates_stopped (λ i xs. give (with_more xs v)) c.in_err-values.ensures c.from_residual-in_err-values.ensures))
 
 pub through-returns-in_err-extended : goal.through-returns-in_err-extended
 through-returns-in_err-extended g t c =
     let v = pending_view c.in_ok-front.front in
-    evaluates_then (λ i v. values i (subscripts_of v) _ >>= (λ xs. give (with_subscripts xs v))) c.in_ok-front.ensures
+    evaluates_then (λ i v. values (one_more i) [] _ >>= (λ xs. give (with_more xs v))) c.in_ok-front.ensures
     (evaluates_behind _ v
-    (evaluates_then (λ i ys. give (with_subscripts (subscripts_of v ++ ys) v)) c.in_ok-values.ensures (evaluates_wanting _ _ _ c.from_residual-in_err-extended.ensures)))
+    (evaluates_then (λ i xs. give (with_more xs v)) c.in_ok-values.ensures (evaluates_wanting _ _ _ c.from_residual-in_err-extended.ensures)))
 
 pub through-returns : goal.through-returns
 through-returns g t c =
     let v = pending_view c.in_ok-front.front in
-    evaluates_then (λ i v. values i (subscripts_of v) _ >>= (λ xs. give (with_subscripts xs v))) c.in_ok-front.ensures
-    (evaluates_behind _ v (evaluates_then (λ i ys. give (with_subscripts (subscripts_of v ++ ys) v)) c.in_ok-values.ensures (evaluates_gives _ pending_view _ c.in_ok-extended.ensures)))
+    evaluates_then (λ i v. values (one_more i) [] _ >>= (λ xs. give (with_more xs v))) c.in_ok-front.ensures
+    (evaluates_behind _ v (evaluates_then (λ i xs. give (with_more xs v)) c.in_ok-values.ensures (evaluates_gives _ pending_view _ c.in_ok-extended.ensures)))
 
 -- ---- functions of a variable
 
@@ -346,6 +350,11 @@ fast_referring-returns-in-Data g t c =
 pub fast_referring-returns-in-Get : goal.fast_referring-returns-in-Get
 fast_referring-returns-in-Get g t c =
     rw c.in-Get.is (evaluates_then (get_act _) (node_evaluated c.args.name.now (expr_tree c.args.subscript.now) _ c.in_ok-eval_into.ensures.does) c.fast_get.ensures)
+
+pub fast_referring-returns-in-Increment : goal.fast_referring-returns-in-Increment
+fast_referring-returns-in-Increment g t c =
+    let node = node_evaluated c.args.name.now (expr_tree c.args.subscript.now) _ c.in_ok-eval_into.ensures.does in
+    rw c.in-Increment.is (evaluates_then (increment_behind _) node c.fast_increment.ensures)
 
 pub fast_referring-returns-in-Name : goal.fast_referring-returns-in-Name
 fast_referring-returns-in-Name g t c =
@@ -384,6 +393,12 @@ pub referring-returns-in-Get : goal.referring-returns-in-Get
 referring-returns-in-Get g t c =
     let is = rw c.in-Get.is at c.function-function.ensures in
     let k = rw c.deref-in-Get.ensures.value at c.get_of.ensures in
+    rw is.1 k
+
+pub referring-returns-in-Increment : goal.referring-returns-in-Increment
+referring-returns-in-Increment g t c =
+    let is = rw c.in-Increment.is at c.function-function.ensures in
+    let k = rw c.deref-in-Increment.ensures.value at c.increment_of.ensures in
     rw is.1 k
 
 pub referring-returns-in-Name : goal.referring-returns-in-Name
@@ -453,6 +468,37 @@ fast_name-returns g t c =
     let named = rw (c.in_ok-front.ensures, c.as_bytes7.ensures.text, c.from_ref.ensures.value) at c.name_text.ensures in
     named_as _ (of_local c.args.name.now (c.args.subscript.now ∷ [])) c.in_ok-most.most c.in_ok-most.ensures
     (named_local c.args.name.now (c.args.subscript.now ∷ []) c.in_ok-most.most named)
+
+-- ---- $INCREMENT
+
+pub increment_of-returns-in_err-pending : goal.increment_of-returns-in_err-pending
+increment_of-returns-in_err-pending g t c =
+    evaluates_stopped (increment_behind (exprs_of (map expr_tree c.args.more.now))) c.in_err-pending.ensures c.from_residual.ensures
+
+pub increment_of-returns-in_err-values : goal.increment_of-returns-in_err-values
+increment_of-returns-in_err-values g t c =
+    evaluates_then (increment_behind _) c.in_ok-pending.ensures
+    (evaluates_stopped (λ i xs. increment_by xs (pending_view c.in_ok-pending.pending)) c.in_err-values.ensures c.from_residual-in_err-values.ensures)
+
+pub increment_of-returns : goal.increment_of-returns
+increment_of-returns g t c =
+    let given = rw c.as_slice.ensures at c.increment_found.ensures in
+    evaluates_then (increment_behind _) c.in_ok-pending.ensures
+    (evaluates_then (λ i xs. increment_by xs (pending_view c.in_ok-pending.pending)) c.in_ok-values.ensures given)
+
+pub fast_increment-returns-in_err-values : goal.fast_increment-returns-in_err-values
+fast_increment-returns-in_err-values g t c =
+    evaluates_stopped (λ i xs. increment_by xs (of_local c.args.name.now (c.args.subscript.now ∷ []))) c.in_err-values.ensures c.from_residual.ensures
+
+pub fast_increment-returns-in_err-copy : goal.fast_increment-returns-in_err-copy
+fast_increment-returns-in_err-copy g t c =
+    evaluates_then (λ i xs. increment_by xs (of_local c.args.name.now (c.args.subscript.now ∷ []))) c.in_ok-values.ensures
+    (evaluates_wanting _ _ _ c.from_residual-in_err-copy.ensures)
+
+pub fast_increment-returns : goal.fast_increment-returns
+fast_increment-returns g t c =
+    let given = rw (c.as_slice.ensures, c.one-subscripts.ensures, c.in_ok-copy.ensures) at c.increment_found.ensures in
+    evaluates_then (λ i xs. increment_by xs (of_local c.args.name.now (c.args.subscript.now ∷ []))) c.in_ok-values.ensures given
 
 pub name_of-returns-in_err-pending : goal.name_of-returns-in_err-pending
 name_of-returns-in_err-pending g t c =

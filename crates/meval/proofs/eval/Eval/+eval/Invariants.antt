@@ -116,6 +116,12 @@ decreases-get_of g l = 16 * l.self.now.steps + 9
 abbrev pub decreases-order_of : goal.decreases-order_of
 decreases-order_of g l = 16 * l.self.now.steps + 8
 
+abbrev pub decreases-fast_increment : goal.decreases-fast_increment
+decreases-fast_increment g l = 16 * l.self.now.steps + 6
+
+abbrev pub decreases-increment_of : goal.decreases-increment_of
+decreases-increment_of g l = 16 * l.self.now.steps + 8
+
 abbrev pub decreases-fast_query : goal.decreases-fast_query
 decreases-fast_query g l = 16 * l.self.now.steps + 7
 

@@ -34,7 +34,7 @@ found_row w [] t h e = absurd cc
 found_row w (r ∷ rs) t h e = picked (is_either r.short r.whole w) w r rs t h.0 (found_row w rs t h.1) e
 
 all_rows : AreAsRows function_rows
-all_rows = (refl, (refl, (tt, (refl, (refl, (refl, (tt, (refl, (refl, (tt, (tt, (refl, (tt, (refl, (refl, (refl, (tt, (refl, tt))))))))))))))))))
+all_rows = (refl, (refl, (tt, (refl, (refl, (refl, (tt, (tt, (refl, (refl, (tt, (tt, (refl, (tt, (refl, (refl, (refl, (tt, (refl, tt)))))))))))))))))))
 
 named_row : (w : Text) (t : FunctionTree) → function_of w ≡ Some t → IsAsRow t
 unfolding function_of

@@ -1,6 +1,6 @@
 -- SPDX-License-Identifier: Apache-2.0
--- The steps of the code are those of the definitions, apart from the call of a function and from what passes steps by. Where a step looks for
--- an item, a stack that has it comes first, and then all others.
+-- The steps of the code are those of the definitions, apart from the call of a function, from what passes steps by, and from what changes how
+-- deep the steps are. Where a step looks for an item, a stack that has it comes first, and then all others.
 use Rattle.mcommand.proofs.CommandWords.{◌≡◌, true, false, List, ◌∷◌, Option, refl, sym, Act}
 use Rattle.std.proofs.lemmas.Bool.{false≢true}
 use Rattle.mmeaning.specs.LineMeaning.{Context}
@@ -8,8 +8,8 @@ use Rattle.mmeaning.specs.Programs.{Targets, Target, Part, Names, Name, Numbers,
 use Rattle.mmeaning.specs.Programs.{Item, one_value, some_values, some_numbers, some_names, made, found, placed, walked, handing, step, plain, Op}
 use Rattle.mmeaning.specs.Programs.{Operand, Tail, Spend, Sign, Join}
 use Rattle.mmeaning.specs.Programs.{Raise, Match, Match_not, Values, Add, Function, Begin, Actual, Hand, Hand_name, Call, Where, Formats, Prepare, Local}
-use Rattle.mmeaning.specs.Programs.{Global, Naked, Extended, Named, Read, Data, Resolve, Get, Walk, Order, Tell_name, Unless, Pass, Refuse}
-use Rattle.mmeaning.specs.Programs.{Seek, Query, sought}
+use Rattle.mmeaning.specs.Programs.{Global, Naked, Extended, Named, Read, Data, Resolve, Get, Walk, Order, Tell_name, Increment, Unless, Pass, Refuse}
+use Rattle.mmeaning.specs.Programs.{Seek, Query, sought, Deeper, Attach}
 use Rattle.mcommand.specs.Steps.{step_in, is_call}
 
 pub step_is : (x : Context) (o : Op) (st : List Item) → is_call o ≡ false → ◌≡◌ {A = Act (Option (List Item))} (step x o st) (step_in (plain x) o st)
@@ -68,6 +68,8 @@ step_is x Order (some_values vs ∷ walked p ∷ st) h = refl
 step_is x Order st h = refl
 step_is x Tell_name (some_values vs ∷ found r ∷ st) h = refl
 step_is x Tell_name st h = refl
+step_is x Increment (some_values vs ∷ found r ∷ st) h = refl
+step_is x Increment st h = refl
 step_is x Seek (found r ∷ st) h = refl
 step_is x Seek st h = refl
 step_is x Query (some_values vs ∷ sought p ∷ st) h = refl
@@ -85,4 +87,6 @@ step_is x Number (one_value v ∷ some_numbers ns ∷ st) h = refl
 step_is x Number st h = refl
 step_is x (Unless n) st h = absurd (false≢true (sym h))
 step_is x (Pass n) st h = absurd (false≢true (sym h))
+step_is x Deeper st h = absurd (false≢true (sym h))
+step_is x Attach st h = absurd (false≢true (sym h))
 step_is x (Refuse c) st h = refl

@@ -1,31 +1,31 @@
 -- SPDX-License-Identifier: Apache-2.0
 -- The steps of a program where an expression stands: as `step` of the definitions has them, apart from the call of a function, which a
--- level has to be opened for, and from what passes steps by.
+-- level has to be opened for, from what passes steps by, and from what changes how deep the steps are.
 use Rattle.std.specs.Prelude.{ℤ, Bool, true, false, not, cond, List, [], ◌∷◌, ◌++◌, Option, Some, None, map, slice_get, unwrap_or}
 use Rattle.mspec.specs.Code.{Zsyntax}
 use Rattle.mspec.specs.Interpretations.{truth_text}
 use Rattle.mspec.specs.LockConflict.{LockName}
 use Rattle.mspec.specs.Scopes.{Binding, valued}
 use Rattle.mspec.specs.Act.{Text, Act, ◌>>=◌, ◌>>◌, give, fail, charge, write_formats, test_is}
-use Rattle.mgrammar.specs.Grammar.{SignTree, BinaryTree, ExprsTree}
+use Rattle.mgrammar.specs.Grammar.{SignTree, BinaryTree, ExprsTree, no_exprs}
 use Rattle.mgrammar.specs.Functions.{function_of}
 use Rattle.mmeaning.specs.Operators.{as_number, as_truth, unaries, binary, raising}
 use Rattle.mmeaning.specs.Functions.{whole_at, call_value}
 use Rattle.mmeaning.specs.Variables.{Evaluated, of_local, of_global, of_naked, Place, reading, ordering, resolve, read_at, read_or, next_at}
-use Rattle.mmeaning.specs.Variables.{direction_of, named, named_lock}
-use Rattle.mmeaning.specs.Variables.{querying, query_at}
-use Rattle.mmeaning.specs.Expression.{Inside, linked_by, named_by, matches_text, tail_value, operand_value}
+use Rattle.mmeaning.specs.Variables.{direction_of, added_of, incremented, named, named_lock, querying, query_at, with_more}
+use Rattle.mmeaning.specs.Expression.{Inside, linked_by, matches_text, tail_value, operand_value, Depth, indirected, attached}
 use Rattle.mmeaning.specs.Parameters.{handed}
 use Rattle.mmeaning.specs.LineMeaning.{Prepared, whole, partial, all_prepared, targets}
 use Rattle.mmeaning.specs.Programs.{Item, one_value, some_values, some_numbers, some_names, found, placed, walked, made, handing, data_at, on_top, Op}
 use Rattle.mmeaning.specs.Programs.{Operand, Tail, Spend, Sign, Targets, Target, Part, Names, Name, Numbers, Number}
 use Rattle.mmeaning.specs.Programs.{Join, Raise, Match, Match_not, Values, Add, Function, Begin, Actual, Hand, Hand_name, Call, Where, Formats, Prepare}
 use Rattle.mmeaning.specs.Programs.{Local, Global, Naked, Extended, Named, Read, Data, Resolve, Get, Walk, Order, Tell_name, Unless, Pass, Refuse}
-use Rattle.mmeaning.specs.Programs.{Seek, Query, sought}
+use Rattle.mmeaning.specs.Programs.{Increment, Seek, Query, sought, Deeper, Attach, outside}
 use Rattle.mlocal.specs.Bindings.{binding_of}
 use Rattle.meval.specs.Acts.{named_within}
 use Rattle.meval.specs.Kept.{readable_view}
 use Rattle.mnum.specs.Num.{units}
+use Rattle.meval.specs.Evaluates.{depth_of}
 use Rattle.meval.specs.Places.{pending_view}
 use Rattle.mcommand.specs.Prepared.{prepared_view}
 use Rattle.mcommand.specs.declared.items.Item as code
@@ -44,6 +44,7 @@ item_view (item.Made all) = made (map prepared_view all.items)
 item_view (item.Handing test bs) = handing test (map binding_of bs.items)
 item_view (item.Numbers ns) = some_numbers (map units ns.items)
 item_view (item.Names names) = some_names names.items
+item_view (item.Outside depth pending) = outside (depth_of depth) (pending_view pending)
 
 -- the last item pushed is on top
 abbrev pub items_on : List Item → List code.Item → List Item
@@ -95,6 +96,10 @@ abbrev pub names_on_top : List Item → Act (List LockName × List Item)
 names_on_top (some_names ns ∷ st) = give (ns, st)
 names_on_top st = fail Zsyntax
 
+abbrev pub outside_on_top : List Item → Act ((Depth × Evaluated) × List Item)
+outside_on_top (outside d r ∷ st) = give ((d, r), st)
+outside_on_top st = fail Zsyntax
+
 -- whatever it is
 abbrev pub item_on_top : List Item → Act (Item × List Item)
 item_on_top (i ∷ st) = give (i, st)
@@ -102,11 +107,13 @@ item_on_top [] = fail Zsyntax
 
 -- ---- steps
 
--- whether a step is the call of a function, or passes steps by
+-- whether a step is the call of a function, passes steps by, or changes how deep those after it are
 abbrev pub is_call : Op → Bool
 is_call (Call e) = true
 is_call (Unless n) = true
 is_call (Pass n) = true
+is_call Deeper = true
+is_call Attach = true
 is_call o = false
 
 -- the stack goes on, or the argument ends
@@ -200,6 +207,27 @@ named_step i subscripts st = do
   r ← named_within i subscripts v.0
   on_top v.1 (found r)
 
+-- goes an indirection deeper, to the subscripts after what the text on top names, and how deep that is
+abbrev pub deeper_step : Inside → List Item → Act (Depth × List Item)
+deeper_step i st = do
+  v ← value_on_top st
+  r ← attached i no_exprs v.0
+  give (indirected i.depth, outside i.depth r ∷ v.1)
+
+-- the same where one text more may be entered than here
+abbrev pub deeper_within : Inside → List Item → Act (Depth × List Item)
+deeper_within i st = do
+  v ← value_on_top st
+  r ← named_within i no_exprs v.0
+  give (indirected i.depth, outside i.depth r ∷ v.1)
+
+-- comes back with these subscripts, and how deep that is
+abbrev pub attach_step : List Item → Act (Depth × List Item)
+attach_step st = do
+  vs ← values_on_top st
+  o ← outside_on_top vs.1
+  give (o.0.0, found (with_more vs.0 o.0.1) ∷ o.1)
+
 abbrev pub step_in : Inside → Op → List Item → Act (Option (List Item))
 step_in i (Operand o) st = do
   v ← operand_value i o
@@ -256,7 +284,7 @@ step_in i Naked st = naked_step st
 step_in i (Extended name) st = extended_step name st
 step_in i (Named subscripts) st = do
   v ← value_on_top st
-  r ← named_by i subscripts v.0
+  r ← attached i subscripts v.0
   on_top v.1 (found r)
 step_in i Read st = do
   r ← found_on_top st
@@ -289,6 +317,11 @@ step_in i Tell_name st = do
   r ← found_on_top vs.1
   v ← whole_at 0 vs.0 >>= (λ most. named i.account most r.0)
   on_top r.1 (one_value v)
+step_in i Increment st = do
+  vs ← values_on_top st
+  r ← found_on_top vs.1
+  v ← added_of (slice_get vs.0 0) >>= (λ by. incremented by r.0)
+  on_top r.1 (one_value v)
 step_in i Seek st = do
   r ← found_on_top st
   p ← resolve querying r.0
@@ -311,4 +344,6 @@ step_in i Numbers st = on_top st (some_numbers [])
 step_in i Number st = number_step st
 step_in i (Unless n) st = fail Zsyntax
 step_in i (Pass n) st = fail Zsyntax
+step_in i Deeper st = fail Zsyntax
+step_in i Attach st = fail Zsyntax
 step_in i (Refuse c) st = fail c

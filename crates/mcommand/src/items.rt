@@ -5,16 +5,17 @@ ghost use Rattle.mmeaning.specs.Programs.{on_top};
 ghost use Rattle.mmeaning.specs.Yields.{Yields};
 ghost use Rattle.moperator.specs.Codes.{fault_of};
 ghost use Rattle.mlocal.specs.Bindings.{binding_of};
+ghost use Rattle.meval.specs.Evaluates.{depth_of};
 ghost use Rattle.meval.specs.Places.{pending_view};
 ghost use Rattle.meval.specs.Kept.{readable_view};
 ghost use Rattle.mnum.specs.Num.{units};
 ghost use Rattle.mcommand.specs.Prepared.{prepared_view};
 ghost use Rattle.mcommand.specs.Steps.{item_view, items_view, value_on_top, values_on_top, found_on_top, placed_on_top, walked_on_top, targets_on_top};
-ghost use Rattle.mcommand.specs.Steps.{sought_on_top};
+ghost use Rattle.mcommand.specs.Steps.{sought_on_top, outside_on_top};
 ghost use Rattle.mcommand.specs.Steps.{handing_on_top, numbers_on_top, names_on_top, item_on_top, goes_with};
 
 use crate::set::Prepared;
-use meval::{Lockable, Pending, Readable, Seekable, Walkable};
+use meval::{Depth, Lockable, Pending, Readable, Seekable, Walkable};
 use mlocal::Binding;
 use mnum::Num;
 use moperator::Code;
@@ -43,6 +44,8 @@ pub enum Item {
     Numbers(Vec<Num>),
     /// The names of LOCK so far.
     Names(Vec<Lockable>),
+    /// What a text names, with how deep its indirection stands, below the subscripts after it.
+    Outside(Depth, Pending<'static>),
 }
 
 /// Takes the value on top. Takes no memory.
@@ -66,6 +69,7 @@ pub fn take_value(items: &mut Vec<Item>) -> Result<Value, Code>
         Item::Made(_) => Err(Code::Zsyntax),
         Item::Handing(_, _) => Err(Code::Zsyntax),
         Item::Numbers(_) => Err(Code::Zsyntax),
+        Item::Outside(_, _) => Err(Code::Zsyntax),
         Item::Names(_) => Err(Code::Zsyntax),
     }
 }
@@ -91,6 +95,7 @@ pub fn take_values(items: &mut Vec<Item>) -> Result<Vec<Value>, Code>
         Item::Made(_) => Err(Code::Zsyntax),
         Item::Handing(_, _) => Err(Code::Zsyntax),
         Item::Numbers(_) => Err(Code::Zsyntax),
+        Item::Outside(_, _) => Err(Code::Zsyntax),
         Item::Names(_) => Err(Code::Zsyntax),
     }
 }
@@ -116,6 +121,7 @@ pub fn take_found(items: &mut Vec<Item>) -> Result<Pending<'static>, Code>
         Item::Made(_) => Err(Code::Zsyntax),
         Item::Handing(_, _) => Err(Code::Zsyntax),
         Item::Numbers(_) => Err(Code::Zsyntax),
+        Item::Outside(_, _) => Err(Code::Zsyntax),
         Item::Names(_) => Err(Code::Zsyntax),
     }
 }
@@ -137,6 +143,7 @@ pub(crate) fn take_placed(items: &mut Vec<Item>) -> Result<Readable, Code>
         Item::Made(_) => Err(Code::Zsyntax),
         Item::Handing(_, _) => Err(Code::Zsyntax),
         Item::Numbers(_) => Err(Code::Zsyntax),
+        Item::Outside(_, _) => Err(Code::Zsyntax),
         Item::Names(_) => Err(Code::Zsyntax),
     }
 }
@@ -158,6 +165,7 @@ pub(crate) fn take_walked(items: &mut Vec<Item>) -> Result<Walkable, Code>
         Item::Made(_) => Err(Code::Zsyntax),
         Item::Handing(_, _) => Err(Code::Zsyntax),
         Item::Numbers(_) => Err(Code::Zsyntax),
+        Item::Outside(_, _) => Err(Code::Zsyntax),
         Item::Names(_) => Err(Code::Zsyntax),
     }
 }
@@ -179,6 +187,7 @@ pub(crate) fn take_sought(items: &mut Vec<Item>) -> Result<Seekable, Code>
         Item::Made(_) => Err(Code::Zsyntax),
         Item::Handing(_, _) => Err(Code::Zsyntax),
         Item::Numbers(_) => Err(Code::Zsyntax),
+        Item::Outside(_, _) => Err(Code::Zsyntax),
         Item::Names(_) => Err(Code::Zsyntax),
     }
 }
@@ -204,6 +213,7 @@ pub fn take_targets(items: &mut Vec<Item>) -> Result<Vec<Prepared<'static>>, Cod
         Item::Made(all) => Ok(all),
         Item::Handing(_, _) => Err(Code::Zsyntax),
         Item::Numbers(_) => Err(Code::Zsyntax),
+        Item::Outside(_, _) => Err(Code::Zsyntax),
         Item::Names(_) => Err(Code::Zsyntax),
     }
 }
@@ -230,6 +240,7 @@ pub fn take_handing(items: &mut Vec<Item>) -> Result<(bool, Vec<Binding>), Code>
         Item::Made(_) => Err(Code::Zsyntax),
         Item::Handing(test, bindings) => Ok((test, bindings)),
         Item::Numbers(_) => Err(Code::Zsyntax),
+        Item::Outside(_, _) => Err(Code::Zsyntax),
         Item::Names(_) => Err(Code::Zsyntax),
     }
 }
@@ -251,6 +262,7 @@ pub(crate) fn take_numbers(items: &mut Vec<Item>) -> Result<Vec<Num>, Code>
         Item::Made(_) => Err(Code::Zsyntax),
         Item::Handing(_, _) => Err(Code::Zsyntax),
         Item::Numbers(numbers) => Ok(numbers),
+        Item::Outside(_, _) => Err(Code::Zsyntax),
         Item::Names(_) => Err(Code::Zsyntax),
     }
 }
@@ -276,7 +288,31 @@ pub fn take_names(items: &mut Vec<Item>) -> Result<Vec<Lockable>, Code>
         Item::Made(_) => Err(Code::Zsyntax),
         Item::Handing(_, _) => Err(Code::Zsyntax),
         Item::Numbers(_) => Err(Code::Zsyntax),
+        Item::Outside(_, _) => Err(Code::Zsyntax),
         Item::Names(names) => Ok(names),
+    }
+}
+
+// Takes what a text names, which is on top, and how deep its indirection stands; `Zsyntax` if there is none. Takes no memory.
+pub(crate) fn take_outside(items: &mut Vec<Item>) -> Result<(Depth, Pending<'static>), Code>
+    ensures { Yields fault_of (outside_on_top (items_view items.old.items))
+        (λ taken. ((depth_of taken.0, pending_view taken.1), items_view items.new.items)) result }
+{
+    let Some(item) = items.pop() else {
+        return Err(Code::Zsyntax);
+    };
+    match item {
+        Item::Value(_) => Err(Code::Zsyntax),
+        Item::Values(_) => Err(Code::Zsyntax),
+        Item::Found(_) => Err(Code::Zsyntax),
+        Item::Placed(_) => Err(Code::Zsyntax),
+        Item::Walked(_) => Err(Code::Zsyntax),
+        Item::Sought(_) => Err(Code::Zsyntax),
+        Item::Made(_) => Err(Code::Zsyntax),
+        Item::Handing(_, _) => Err(Code::Zsyntax),
+        Item::Numbers(_) => Err(Code::Zsyntax),
+        Item::Outside(depth, pending) => Ok((depth, pending)),
+        Item::Names(_) => Err(Code::Zsyntax),
     }
 }
 

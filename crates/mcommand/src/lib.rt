@@ -1,5 +1,5 @@
 // SPDX-License-Identifier: Apache-2.0
-//! What the arguments of commands that run no text do: SET, KILL, IF, LOCK, WRITE and HANG, postconditionals, the parameters of FOR,
+//! What the arguments of commands that run no text do: SET, KILL, MERGE, IF, LOCK, WRITE and HANG, postconditionals, the parameters of FOR,
 //! and what the actuals of DO hand over; and the steps of an argument with a call of a function in it.
 #![tactic(auto)]
 
@@ -11,6 +11,7 @@ mod hang;
 mod items;
 mod kill;
 mod lock;
+mod merge;
 mod parts;
 mod reference_steps;
 mod set;
@@ -25,6 +26,7 @@ pub use items::{
     Item, take_found, take_handing, take_item, take_names, take_targets, take_value, take_values,
 };
 pub use parts::Parts;
+pub use reference_steps::attach_step;
 pub use set::Prepared;
 pub use target::Target;
 pub use write::LINE_END;

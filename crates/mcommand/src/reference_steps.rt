@@ -5,15 +5,18 @@ ghost use Rattle.mgrammar.specs.Grammar.{exprs_of};
 ghost use Rattle.mmeaning.specs.Programs as programs;
 ghost use Rattle.mmeaning.specs.Yields.{Yields};
 ghost use Rattle.moperator.specs.Codes.{fault_of};
+ghost use Rattle.meval.specs.Evaluates.{depth_of};
 ghost use Rattle.mtree.specs.Tree.{expr_tree};
-ghost use Rattle.mcommand.specs.Does.{Does};
+ghost use Rattle.mcommand.specs.Does.{Does, DoesWithin};
 ghost use Rattle.mcommand.specs.Steps.{items_view, step_in, goes_with, local_step, naked_step, extended_step, named_step};
+ghost use Rattle.mcommand.specs.Steps.{attach_step, deeper_step, deeper_within};
 
 use crate::items::{
-    Item, put, take_found, take_placed, take_sought, take_value, take_values, take_walked,
+    Item, put, take_found, take_outside, take_placed, take_sought, take_value, take_values,
+    take_walked,
 };
 use crate::parts::Parts;
-use meval::{Pending, Values, VariableName, extended_found};
+use meval::{Depth, Pending, Values, VariableName, extended_found};
 use mnodes::NodeStore;
 use mnum::Name;
 use moperator::Code;
@@ -49,6 +52,21 @@ pub(crate) fn extended_step(alloc: Global, name: &Name, items: &mut Vec<Item>) -
     let owner = take_value(items)?;
     let pending = extended_found(alloc, owner, name, values)?;
     put(items, Item::Found(pending))
+}
+
+/// Adds the values on top, which are subscripts after an indirection, to what its text names. Returns how deep the indirection stands.
+///
+/// # Errors
+///
+/// `Zsyntax` if the stack lacks these, as it does in no program; `Zmem` if memory runs out.
+pub fn attach_step(alloc: Global, items: &mut Vec<Item>) -> Result<Depth, Code>
+    ensures { Yields fault_of (attach_step (items_view items.old.items)) (λ depth. (depth_of depth, items_view items.new.items)) result }
+{
+    let values = take_values(items)?;
+    let (depth, pending) = take_outside(items)?;
+    let found = pending.extended(alloc, Values::of_vec(values))?;
+    items.push(Item::Found(found))?;
+    Ok(depth)
 }
 
 impl<'a, S: NodeStore> Parts<'a, S> {
@@ -107,6 +125,35 @@ impl<'a, S: NodeStore> Parts<'a, S> {
         let given = take_value(items)?;
         let pending = self.eval.named_by(alloc, given, subscripts)?;
         put(items, Item::Found(pending))
+    }
+
+    // Finds what the text on top names, to whose subscripts the program goes an indirection deeper.
+    fn named_outside(&mut self, alloc: Global, items: &mut Vec<Item>) -> Result<Depth, Code>
+        ensures { Does S.NodeStore (λ i. deeper_within i (items_view items.old.items))
+            (λ depth. (depth_of depth, items_view items.new.items)) self.old result self.new }
+    {
+        let given = take_value(items)?;
+        let depth = self.eval.depth;
+        let Some(deeper) = depth.indirected() else {
+            return Err(Code::Zdepth);
+        };
+        let pending = self.eval.named_by(alloc, given, &[])?;
+        items.push(Item::Outside(depth, pending))?;
+        Ok(deeper)
+    }
+
+    /// Finds what the text on top names, within a command, whose own step is spent. The subscripts after it are evaluated an indirection
+    /// deeper: returns how deep that is.
+    ///
+    /// # Errors
+    ///
+    /// `Zdepth` if no indirection is free, and those of what the text names; `Zsyntax` if there is no text, as there is in each program.
+    /// `Zmem` if memory runs out.
+    pub fn deeper_step(&mut self, alloc: Global, items: &mut Vec<Item>) -> Result<Depth, Code>
+        ensures { DoesWithin S.NodeStore (λ i. deeper_step i (items_view items.old.items))
+            (λ depth. (depth_of depth, items_view items.new.items)) self.old result self.new }
+    {
+        self.named_outside(alloc, items)
     }
 
     // The value of the variable of the reference on top.
@@ -187,6 +234,21 @@ impl<'a, S: NodeStore> Parts<'a, S> {
         let values = take_values(items)?;
         let pending = take_found(items)?;
         let value = self.eval.name_found(alloc, pending, &values)?;
+        put(items, Item::Value(value))
+    }
+
+    // What $INCREMENT gives of the reference below the values on top.
+    pub(crate) fn increment_step(
+        &mut self,
+        alloc: Global,
+        items: &mut Vec<Item>,
+    ) -> Result<bool, Code>
+        ensures { Does S.NodeStore (λ i. step_in i programs.Increment (items_view items.old.items))
+            (λ goes. goes_with goes (items_view items.new.items)) self.old result self.new }
+    {
+        let values = take_values(items)?;
+        let pending = take_found(items)?;
+        let value = self.eval.increment_found(alloc, pending, &values)?;
         put(items, Item::Value(value))
     }
 

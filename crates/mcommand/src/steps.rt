@@ -216,9 +216,9 @@ impl<'a, S: NodeStore> Parts<'a, S> {
     ///
     /// # Errors
     ///
-    /// Those of what the step evaluates, and `Zsyntax` for the call of a function and for what passes steps by, which are for the caller to
-    /// carry out, and where the stack lacks what the step takes, as it does in no program. `M4` after the last choice of $SELECT. `Zmem` if
-    /// memory runs out. The stack is then any.
+    /// Those of what the step evaluates, and `Zsyntax` for the call of a function, for what passes steps by and for what changes how deep the
+    /// steps are, which are for the caller to carry out, and where the stack lacks what the step takes, as it does in no program. `M4` after
+    /// the last choice of $SELECT. `Zmem` if memory runs out. The stack is then any.
     pub fn step(&mut self, alloc: Global, op: Op, items: &mut Vec<Item>) -> Result<bool, Code>
         ensures { DoesWithin S.NodeStore (λ i. step_in i (op_view op.entry) (items_view items.old.items))
             (λ goes. goes_with goes (items_view items.new.items)) self.old result self.new }
@@ -244,6 +244,8 @@ impl<'a, S: NodeStore> Parts<'a, S> {
             Op::Prepare(destination) => self.prepare_step(alloc, destination, items),
             Op::Unless(_) => Err(Code::Zsyntax),
             Op::Pass(_) => Err(Code::Zsyntax),
+            Op::Deeper => Err(Code::Zsyntax),
+            Op::Attach => Err(Code::Zsyntax),
             Op::NoChoice => Err(Code::M4),
             Op::Match => self.match_step(alloc, items),
             Op::MatchNot => self.match_not_step(alloc, items),
@@ -259,6 +261,7 @@ impl<'a, S: NodeStore> Parts<'a, S> {
             Op::Walk => self.walk_step(alloc, items),
             Op::Order => self.order_step(alloc, items),
             Op::TellName => self.tell_name_step(alloc, items),
+            Op::Increment => self.increment_step(alloc, items),
             Op::Seek => self.seek_step(alloc, items),
             Op::Query => self.query_step(alloc, items),
             Op::Targets => put(items, Item::Made(Vec::new(alloc))),

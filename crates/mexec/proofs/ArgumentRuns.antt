@@ -88,9 +88,9 @@ module _ (b : Text) (n : ℕ) (p : Position) where
   program_is a has is =
       let w = of_argument a in
       programs_carry_arguments here a (whole_program w) (calls_have_programs a has is)
-      ∙ programs_pause b n p (steps_of w) (ending_of w) []
-      ∙ (λ i. begun here (steps_of w) (ending_of w) [] >>= (λ r. progress_is (ending_of w) r i))
-      ∙ sym (assoc (begun here (steps_of w) (ending_of w) []) (λ r. give (progress_at (ending_of w) r)) (finished here))
+      ∙ programs_pause b n p p.depth (steps_of w) (ending_of w) []
+      ∙ (λ i. begun here p.depth (steps_of w) (ending_of w) [] >>= (λ r. progress_is (ending_of w) r i))
+      ∙ sym (assoc (begun here p.depth (steps_of w) (ending_of w) []) (λ r. give (progress_at (ending_of w) r)) (finished here))
 
   pub argument_is : (a : ArgTree) → in_steps_arg a ≡ true → ◌≡◌ {A = Act meaning.Completion} (argument here a) (started here a >>= finished here)
   argument_is a is = either (has_call_arg a) refl

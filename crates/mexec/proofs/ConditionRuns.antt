@@ -36,13 +36,15 @@ condition_whole (Some s) has = of_some (command_tree s.command).condition has
 
 module _ (a : Text) (n : ℕ) (p : Position) (rest : List CommandTree) where
   by_condition : (c : CommandTree) (k : Option ExprTree) → c.condition ≡ k → has_call_optional k ≡ true → in_steps_optional k ≡ true
-      → ◌≡◌ {A = Act meaning.Completion} (conditional (context a n p) c rest) (carried (context a n p) (steps_within (option_map of_condition k)) (ending_within (option_map of_condition k)) [] >>= frame a n (Conditions p c rest))
+      → ◌≡◌ {A = Act meaning.Completion} (conditional (context a n p) c rest) (carried (context a n p) p.depth (steps_within (option_map of_condition k))
+      (ending_within (option_map of_condition k)) [] >>= frame a n (Conditions p c rest))
   by_condition c None same has is = absurd (let clash : false ≡ true = has in cc)
   by_condition c (Some e) same has is = conditions_go_on a n p c rest e (whole_program (of_condition e)) same (conditions_have_programs e is)
 
   -- the command before a place is the program of its condition, on top of the command
   pub condition_runs : (o : Option Spaced) → has_call_optional (command_in o).condition ≡ true → in_steps_optional (command_in o).condition ≡ true
-      → ◌≡◌ {A = Act meaning.Completion} (conditional (context a n p) (command_in o) rest) (carried (context a n p) (steps_within (condition_of o)) (ending_within (condition_of o)) [] >>= frame a n (Conditions p (command_in o) rest))
+      → ◌≡◌ {A = Act meaning.Completion} (conditional (context a n p) (command_in o) rest)
+      (carried (context a n p) p.depth (steps_within (condition_of o)) (ending_within (condition_of o)) [] >>= frame a n (Conditions p (command_in o) rest))
   condition_runs None has is = absurd (let clash : false ≡ true = has in cc)
   condition_runs (Some s) has is = by_condition (command_tree s.command) (command_tree s.command).condition refl has is
 
@@ -50,11 +52,12 @@ module _ (a : Text) (n : ℕ) (p : Position) (rest : List CommandTree) where
   pub condition_pauses : (o : Option Spaced) (w : WholeTree) → condition_of o ≡ Some w → has_call_optional (command_in o).condition ≡ true
       → in_steps_optional (command_in o).condition ≡ true
       → ◌≡◌ {A = Act meaning.Completion} (conditional (context a n p) (command_in o) rest)
-      (begun (context a n p) (steps_of w) (ending_of w) [] >>= resumed a n p (ending_of w) >>= frame a n (Conditions p (command_in o) rest))
+      (begun (context a n p) p.depth (steps_of w) (ending_of w) [] >>= resumed a n p (ending_of w) >>= frame a n (Conditions p (command_in o) rest))
   condition_pauses o w there has is =
       condition_runs o has is
-      ∙ ap (λ (k : Option WholeTree). carried (context a n p) (steps_within k) (ending_within k) [] >>= frame a n (Conditions p (command_in o) rest)) there
-      ∙ (λ i. programs_pause a n p (steps_of w) (ending_of w) [] i >>= frame a n (Conditions p (command_in o) rest))
+      ∙ ap
+      (λ (k : Option WholeTree). carried (context a n p) p.depth (steps_within k) (ending_within k) [] >>= frame a n (Conditions p (command_in o) rest)) there
+      ∙ (λ i. programs_pause a n p p.depth (steps_of w) (ending_of w) [] i >>= frame a n (Conditions p (command_in o) rest))
 
 -- there is an argument with a program
 pub argument_there : (args : List Arg) (at : ℕ) (one : Arg) → slice_get args at ≡ Some one → is_some (argument_of args at) ≡ true

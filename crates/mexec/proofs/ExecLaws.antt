@@ -33,7 +33,8 @@ pub use Rattle.mexec.proofs.Indexes.{any_course, no_course, no_parameters, not_f
 pub use Rattle.mexec.proofs.LevelRuns.{at_any, at_plain, at_read, at_yielded, is_within, line_refused, line_runs, line_begins, line_listed, line_unlisted}
 pub use Rattle.mexec.proofs.LevelRuns.{lines_are, lines_opened, lines_opened_as, list_entered, listed, passes_line, passing_failed, stops_at, target_entered}
 pub use Rattle.mexec.proofs.LevelRuns.{text_opened, then_closed, unlisted}
-pub use Rattle.mexec.proofs.Here.{coding_here, formatting_here, handed_over_here, hanging_here, holds_here, killing_here, locking_here, primary_here}
+pub use Rattle.mexec.proofs.Here.{coding_here, formatting_here, handed_over_here, hanging_here, holds_here, killing_here, locking_here, merging_here}
+pub use Rattle.mexec.proofs.Here.{primary_here}
 pub use Rattle.mexec.proofs.Here.{returning_here, setting_here, showing_here, started_here, testing_here, value_here}
 pub use Rattle.mcommand.proofs.Spoken.{at_in}
 pub use Rattle.std.proofs.lemmas.Option.{slice_get_read}

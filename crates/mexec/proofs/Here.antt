@@ -12,12 +12,14 @@ use Rattle.mmeaning.specs.Courses as courses
 use Rattle.mmeaning.specs.Expression.{Calls}
 use Rattle.mmeaning.specs.Levels.{Position}
 use Rattle.mmeaning.specs.Locking.{locking}
+use Rattle.mmeaning.specs.Merging.{merging}
 use Rattle.mmeaning.specs.LineMeaning as meaning
 use Rattle.mmeaning.specs.Parameters.{handed_over}
 use Rattle.mmeaning.specs.Variables.{at_local, put_at}
 use Rattle.mmeaning.proofs.Uncalled.{neither}
 use Rattle.mmeaning.proofs.UncalledArguments.{Plain, value_plain, primary_plain, holds_plain, number_plain, setting_plain, showing_plain, formatting_plain}
-use Rattle.mmeaning.proofs.UncalledArguments.{coding_plain, killing_plain, testing_plain, hanging_plain, returning_plain, locking_plain, handed_over_plain}
+use Rattle.mmeaning.proofs.UncalledArguments.{coding_plain, killing_plain, merging_plain, testing_plain, hanging_plain, returning_plain, locking_plain}
+use Rattle.mmeaning.proofs.UncalledArguments.{handed_over_plain}
 use Rattle.mcommand.specs.ForParameters.{started, start_and_increment, begun_within}
 
 -- ---- the parameters of FOR
@@ -68,6 +70,9 @@ module _ (p : Position) where
 
   pub killing_here : (r : ReferenceTree) → has_call_reference r ≡ false → Here (λ i. meaning.killing i r)
   killing_here r h a n = killing_plain a n p.depth (inside_of (context a n p)).calls r h
+
+  pub merging_here : (target source : ReferenceTree) → has_call_reference target || has_call_reference source ≡ false → Here (λ i. merging i target source)
+  merging_here target source h a n = merging_plain a n p.depth (inside_of (context a n p)).calls target source h
 
   pub testing_here : (e : ExprTree) → has_call e ≡ false → Here (λ i. meaning.testing i e)
   testing_here e h a n = testing_plain a n p.depth (inside_of (context a n p)).calls e h

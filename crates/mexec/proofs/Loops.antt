@@ -74,20 +74,25 @@ next_is x index body (until e by to) rest = sym (
 pub started_unpaused : (x : Context) (index : Text) (q : ParameterTree) (rest : List ParameterTree) (body : List CommandTree) → has_call_parameter q ≡ false
     → ◌≡◌ {A = Act Pause} (parameter_started x index q rest body) (started (inside_of x) index q >>= (λ c. give (turns c)))
 started_unpaused x index q rest body none =
-    ap (λ b. cond b (programs.begun x (steps_of (of_parameter index q rest body)) (Loop index rest body) []) (started (inside_of x) index q >>= (λ c. give (turns c)))) none
+    ap (λ b. cond b (programs.begun x x.position.depth (steps_of (of_parameter index q rest body)) (Loop index rest body) [])
+    (started (inside_of x) index q >>= (λ c. give (turns c)))) none
 
 pub started_paused : (x : Context) (index : Text) (q : ParameterTree) (rest : List ParameterTree) (body : List CommandTree) → has_call_parameter q ≡ true
-    → ◌≡◌ {A = Act Pause} (parameter_started x index q rest body) (programs.begun x (steps_of (of_parameter index q rest body)) (Loop index rest body) [])
+    → ◌≡◌ {A = Act Pause} (parameter_started x index q rest body)
+    (programs.begun x x.position.depth (steps_of (of_parameter index q rest body)) (Loop index rest body) [])
 started_paused x index q rest body has =
-    ap (λ b. cond b (programs.begun x (steps_of (of_parameter index q rest body)) (Loop index rest body) []) (started (inside_of x) index q >>= (λ c. give (turns c)))) has
+    ap (λ b. cond b (programs.begun x x.position.depth (steps_of (of_parameter index q rest body)) (Loop index rest body) [])
+    (started (inside_of x) index q >>= (λ c. give (turns c)))) has
 
 -- a parameter is begun, and then there is what it leads to
-parameter_is : (a : Text) (n : ℕ) (d : Position) (index : Text) (q : ParameterTree) (rest : List ParameterTree) (body : List CommandTree) → in_steps_parameter q ≡ true
+parameter_is : (a : Text) (n : ℕ) (d : Position) (index : Text) (q : ParameterTree) (rest : List ParameterTree) (body : List CommandTree)
+    → in_steps_parameter q ≡ true
     → ◌≡◌ {A = Act meaning.Completion} (next_parameter (context a n d) index body (q ∷ rest)) (parameter_started (context a n d) index q rest body >>= resumed a n d (Loop index rest body))
 parameter_is a n d index q rest body is = either (has_call_parameter q)
   where
     either : (b : Bool) → ◌≡◌ {A = Act meaning.Completion} (next_parameter (context a n d) index body (q ∷ rest))
-        (cond b (programs.begun (context a n d) (steps_of (of_parameter index q rest body)) (Loop index rest body) []) (started (inside_of (context a n d)) index q >>= (λ c. give (turns c))) >>= resumed a n d (Loop index rest body))
+        (cond b (programs.begun (context a n d) d.depth (steps_of (of_parameter index q rest body)) (Loop index rest body) [])
+        (started (inside_of (context a n d)) index q >>= (λ c. give (turns c))) >>= resumed a n d (Loop index rest body))
     either true = parameters_pause a n d index q rest body (whole_program (of_parameter index q rest body)) (parameters_have_programs index q rest body is)
     either false =
         next_is (context a n d) index body q rest
@@ -165,7 +170,8 @@ falls_off_program left from (Err e) h = tt
 -- ---- turns as the frames have them
 
 -- those of a FOR with an index, from one of its parameters on
-pub turning_from : (body : Continuation) (k : ℕ) (c : the_course.Course) (index : Text) (parameters : List Parameter) → loop_before body.line.value body.at ≡ (index, parameters)
+pub turning_from : (body : Continuation) (k : ℕ) (c : the_course.Course) (index : Text) (parameters : List Parameter)
+    → loop_before body.line.value body.at ≡ (index, parameters)
     → turning_at body k c ≡ record { index = index; course = course_view c; parameters = map parameter_tree (drop k parameters); body = commands_from body.line.value body.at }
 turning_from body k c index parameters e =
     λ i. record { index = (e i).0; course = course_view c; parameters = map parameter_tree (drop k (e i).1); body = commands_from body.line.value body.at }

@@ -1,13 +1,14 @@
 -- SPDX-License-Identifier: Apache-2.0
 -- What a program does in the end, as the code does it.
 use Rattle.mexec.proofs.ExecWords.{◌≡◌, true, false, List, [], ◌∷◌, None, Some, refl, Act, ◌>>=◌, ◌>>◌, give, as_truth, Context, Go_on, assoc}
+use Rattle.mmeaning.specs.Merging.{merge_found}
 use Rattle.meval.specs.Acts.{kill_act}
 use Rattle.mspec.specs.Act.{write}
 use Rattle.mmeaning.specs.Operators.{as_number}
 use Rattle.mmeaning.specs.LineMeaning.{all_assigned, spaced_to, character_written, where_true}
 use Rattle.mmeaning.specs.Programs.{Item, one_value, some_values, some_numbers, some_names, found, placed, walked, made, handing, Ending, Assign, Show}
-use Rattle.mmeaning.specs.Programs.{Tab, Character, Test, Hold, Wait, Return, Run, Enter, Go, Kill, Lock, Indirect, Nothing, Loop, Pause, over}
-use Rattle.mmeaning.specs.Programs.{end_begun, lock_done, sought}
+use Rattle.mmeaning.specs.Programs.{Tab, Character, Test, Hold, Wait, Return, Run, Enter, Go, Kill, Merge, Lock, Indirect, Nothing, Loop, Pause, over}
+use Rattle.mmeaning.specs.Programs.{end_begun, lock_done, sought, outside}
 use Rattle.mexec.specs.Programs.{ends}
 
 module _ (x : Context) where
@@ -31,6 +32,7 @@ module _ (x : Context) where
   ends_is Assign (one_value v ∷ handing b bs ∷ st) = refl
   ends_is Assign (one_value v ∷ some_numbers ns ∷ st) = refl
   ends_is Assign (one_value v ∷ some_names ns ∷ st) = refl
+  ends_is Assign (one_value v ∷ outside d r ∷ st) = refl
   ends_is Assign (some_values vs ∷ st) = refl
   ends_is Assign (found r ∷ st) = refl
   ends_is Assign (placed p ∷ st) = refl
@@ -40,6 +42,7 @@ module _ (x : Context) where
   ends_is Assign (handing b bs ∷ st) = refl
   ends_is Assign (some_numbers ns ∷ st) = refl
   ends_is Assign (some_names ns ∷ st) = refl
+  ends_is Assign (outside d r ∷ st) = refl
   ends_is Show [] = refl
   ends_is Show (one_value v ∷ st) = goes_on (write v)
   ends_is Show (some_values vs ∷ st) = refl
@@ -51,6 +54,7 @@ module _ (x : Context) where
   ends_is Show (handing b bs ∷ st) = refl
   ends_is Show (some_numbers ns ∷ st) = refl
   ends_is Show (some_names ns ∷ st) = refl
+  ends_is Show (outside d r ∷ st) = refl
   ends_is Tab [] = refl
   ends_is Tab (one_value v ∷ st) = goes_on (spaced_to v)
   ends_is Tab (some_values vs ∷ st) = refl
@@ -62,6 +66,7 @@ module _ (x : Context) where
   ends_is Tab (handing b bs ∷ st) = refl
   ends_is Tab (some_numbers ns ∷ st) = refl
   ends_is Tab (some_names ns ∷ st) = refl
+  ends_is Tab (outside d r ∷ st) = refl
   ends_is Character [] = refl
   ends_is Character (one_value v ∷ st) = goes_on (character_written v)
   ends_is Character (some_values vs ∷ st) = refl
@@ -73,6 +78,7 @@ module _ (x : Context) where
   ends_is Character (handing b bs ∷ st) = refl
   ends_is Character (some_numbers ns ∷ st) = refl
   ends_is Character (some_names ns ∷ st) = refl
+  ends_is Character (outside d r ∷ st) = refl
   ends_is Test [] = refl
   ends_is Test (one_value v ∷ st) = refl
   ends_is Test (some_values vs ∷ st) = refl
@@ -84,6 +90,7 @@ module _ (x : Context) where
   ends_is Test (handing b bs ∷ st) = refl
   ends_is Test (some_numbers ns ∷ st) = refl
   ends_is Test (some_names ns ∷ st) = refl
+  ends_is Test (outside d r ∷ st) = refl
   ends_is Hold [] = refl
   ends_is Hold (one_value v ∷ st) = assoc (as_truth v) (λ b. give (where_true b)) (λ s. give (over s))
   ends_is Hold (some_values vs ∷ st) = refl
@@ -95,6 +102,7 @@ module _ (x : Context) where
   ends_is Hold (handing b bs ∷ st) = refl
   ends_is Hold (some_numbers ns ∷ st) = refl
   ends_is Hold (some_names ns ∷ st) = refl
+  ends_is Hold (outside d r ∷ st) = refl
   ends_is Wait [] = refl
   ends_is Wait (one_value v ∷ st) = assoc (as_number v) (λ n. give Go_on) (λ s. give (over s))
   ends_is Wait (some_values vs ∷ st) = refl
@@ -106,6 +114,7 @@ module _ (x : Context) where
   ends_is Wait (handing b bs ∷ st) = refl
   ends_is Wait (some_numbers ns ∷ st) = refl
   ends_is Wait (some_names ns ∷ st) = refl
+  ends_is Wait (outside d r ∷ st) = refl
   ends_is Return [] = refl
   ends_is Return (one_value v ∷ st) = refl
   ends_is Return (some_values vs ∷ st) = refl
@@ -117,6 +126,7 @@ module _ (x : Context) where
   ends_is Return (handing b bs ∷ st) = refl
   ends_is Return (some_numbers ns ∷ st) = refl
   ends_is Return (some_names ns ∷ st) = refl
+  ends_is Return (outside d r ∷ st) = refl
   ends_is Run [] = refl
   ends_is Run (one_value v ∷ st) = refl
   ends_is Run (some_values vs ∷ st) = refl
@@ -128,6 +138,7 @@ module _ (x : Context) where
   ends_is Run (handing b bs ∷ st) = refl
   ends_is Run (some_numbers ns ∷ st) = refl
   ends_is Run (some_names ns ∷ st) = refl
+  ends_is Run (outside d r ∷ st) = refl
   ends_is (Enter e is_listed) [] = refl
   ends_is (Enter e is_listed) (one_value v ∷ st) = refl
   ends_is (Enter e is_listed) (some_values vs ∷ st) = refl
@@ -139,24 +150,50 @@ module _ (x : Context) where
   ends_is (Enter e is_listed) (handing b bs ∷ st) = refl
   ends_is (Enter e is_listed) (some_numbers ns ∷ st) = refl
   ends_is (Enter e is_listed) (some_names ns ∷ st) = refl
+  ends_is (Enter e is_listed) (outside d r ∷ st) = refl
   ends_is (Go e) st = refl
   ends_is Kill [] = refl
   ends_is Kill (one_value v ∷ st) = refl
   ends_is Kill (some_values vs ∷ st) = refl
   ends_is Kill (some_numbers ns ∷ st) = refl
   ends_is Kill (some_names ns ∷ st) = refl
+  ends_is Kill (outside d r ∷ st) = refl
   ends_is Kill (found r ∷ st) = goes_on (kill_act r)
   ends_is Kill (placed p ∷ st) = refl
   ends_is Kill (walked p ∷ st) = refl
   ends_is Kill (sought p ∷ st) = refl
   ends_is Kill (made ps ∷ st) = refl
   ends_is Kill (handing b bs ∷ st) = refl
+  ends_is Merge [] = refl
+  ends_is Merge (one_value v ∷ st) = refl
+  ends_is Merge (some_values vs ∷ st) = refl
+  ends_is Merge (some_numbers ns ∷ st) = refl
+  ends_is Merge (some_names ns ∷ st) = refl
+  ends_is Merge (outside d r ∷ st) = refl
+  ends_is Merge (found w ∷ []) = refl
+  ends_is Merge (found w ∷ one_value v ∷ st) = refl
+  ends_is Merge (found w ∷ some_values vs ∷ st) = refl
+  ends_is Merge (found w ∷ some_numbers ns ∷ st) = refl
+  ends_is Merge (found w ∷ some_names ns ∷ st) = refl
+  ends_is Merge (found w ∷ outside d r ∷ st) = refl
+  ends_is Merge (found w ∷ found v ∷ st) = goes_on (merge_found v w)
+  ends_is Merge (found w ∷ placed p ∷ st) = refl
+  ends_is Merge (found w ∷ walked p ∷ st) = refl
+  ends_is Merge (found w ∷ sought p ∷ st) = refl
+  ends_is Merge (found w ∷ made ps ∷ st) = refl
+  ends_is Merge (found w ∷ handing b bs ∷ st) = refl
+  ends_is Merge (placed p ∷ st) = refl
+  ends_is Merge (walked p ∷ st) = refl
+  ends_is Merge (sought p ∷ st) = refl
+  ends_is Merge (made ps ∷ st) = refl
+  ends_is Merge (handing b bs ∷ st) = refl
   ends_is (Lock k true) [] = refl
   ends_is (Lock k true) (one_value v ∷ []) = refl
   ends_is (Lock k true) (one_value v ∷ one_value w ∷ st) = refl
   ends_is (Lock k true) (one_value v ∷ some_values ws ∷ st) = refl
   ends_is (Lock k true) (one_value v ∷ some_numbers ns ∷ st) = refl
   ends_is (Lock k true) (one_value v ∷ some_names ns ∷ st) = goes_on (lock_done k ns (Some v))
+  ends_is (Lock k true) (one_value v ∷ outside d r ∷ st) = refl
   ends_is (Lock k true) (one_value v ∷ found r ∷ st) = refl
   ends_is (Lock k true) (one_value v ∷ placed p ∷ st) = refl
   ends_is (Lock k true) (one_value v ∷ walked p ∷ st) = refl
@@ -166,6 +203,7 @@ module _ (x : Context) where
   ends_is (Lock k true) (some_values vs ∷ st) = refl
   ends_is (Lock k true) (some_numbers ns ∷ st) = refl
   ends_is (Lock k true) (some_names ns ∷ st) = refl
+  ends_is (Lock k true) (outside d r ∷ st) = refl
   ends_is (Lock k true) (found r ∷ st) = refl
   ends_is (Lock k true) (placed p ∷ st) = refl
   ends_is (Lock k true) (walked p ∷ st) = refl
@@ -177,6 +215,7 @@ module _ (x : Context) where
   ends_is (Lock k false) (some_values vs ∷ st) = refl
   ends_is (Lock k false) (some_numbers ns ∷ st) = refl
   ends_is (Lock k false) (some_names ns ∷ st) = goes_on (lock_done k ns None)
+  ends_is (Lock k false) (outside d r ∷ st) = refl
   ends_is (Lock k false) (found r ∷ st) = refl
   ends_is (Lock k false) (placed p ∷ st) = refl
   ends_is (Lock k false) (walked p ∷ st) = refl
@@ -188,6 +227,7 @@ module _ (x : Context) where
   ends_is (Indirect f) (some_values vs ∷ st) = refl
   ends_is (Indirect f) (some_numbers ns ∷ st) = refl
   ends_is (Indirect f) (some_names ns ∷ st) = refl
+  ends_is (Indirect f) (outside d r ∷ st) = refl
   ends_is (Indirect f) (found r ∷ st) = refl
   ends_is (Indirect f) (placed p ∷ st) = refl
   ends_is (Indirect f) (walked p ∷ st) = refl

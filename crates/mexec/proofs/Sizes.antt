@@ -18,7 +18,7 @@ falls_further left from to (Ok x) few h = omega (arith, few, h)
 falls_further left from to (Err e) few h = tt
 
 is_program : View → Bool
-is_program (Programs p ops k st) = true
+is_program (Programs p d ops k st) = true
 is_program v = false
 
 -- a frame of arguments is not that of a program

@@ -44,7 +44,8 @@ progress_at k r = stops (into_pause k r)
 
 -- one with a call does its program up to where that opens a level
 abbrev pub program_started : Context → ArgTree → Act (Progress Entrance)
-program_started x a = begun x (steps_of (of_argument a)) (ending_of (of_argument a)) [] >>= (λ r. give (progress_at (ending_of (of_argument a)) r))
+program_started x a =
+    begun x x.position.depth (steps_of (of_argument a)) (ending_of (of_argument a)) [] >>= (λ r. give (progress_at (ending_of (of_argument a)) r))
 
 abbrev pub started : Context → ArgTree → Act (Progress Entrance)
 started x a = cond (has_call_arg a) (program_started x a) (started_plainly x a)
@@ -69,7 +70,8 @@ abbrev pub entrance_of : entrances.Entrance → Entrance
 entrance_of (entrance.Lines c) = into_lines (called_tree c.now)
 entrance_of (entrance.Text e) = into_text (expr_tree e.now)
 entrance_of (entrance.Indirect k p) = into_given (form_of (keyword_tree k)) (primary_tree p.now)
-entrance_of (entrance.Paused r) = into_pause (ending_of (of_argument (arg_tree r.value.arg.now))) (pause_of (of_argument (arg_tree r.value.arg.now)) r.value.pause)
+entrance_of (entrance.Paused r) =
+    into_pause (ending_of (of_argument (arg_tree r.value.arg.now))) (pause_of (of_argument (arg_tree r.value.arg.now)) r.value.pause)
 
 -- what is entered before the arguments from one on: no function is called in it, or it is the program of the argument before them
 abbrev pub IsReady : List Arg → ℕ → entrances.Entrance → Type 0

@@ -114,7 +114,8 @@ view (frame.IndirectArguments g argument) = Lists (position_of g.value.position)
 view (frame.ForLoop t) = Turns (position_of t.value.body.position.value) (turning t.value)
 view (frame.Level p c) = Levels (position_of p.value) (closing_of c)
 view (frame.Program s) =
-    Programs (position_of (holder_position s.value.holder)) (drop s.value.at (steps_within (whole_of s.value.holder))) (ending_within (whole_of s.value.holder))
+    Programs (position_of (holder_position s.value.holder)) (depth_of s.value.depth) (drop s.value.at (steps_within (whole_of s.value.holder)))
+    (ending_within (whole_of s.value.holder))
     (items_view s.value.items.items)
 view (frame.Condition behind) = Conditions (position_of behind.position.value) (command_in (spaced_before behind.line.value behind.at)) (rest_tree behind)
 

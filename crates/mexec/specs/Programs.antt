@@ -4,8 +4,9 @@ use Rattle.std.specs.Prelude.{ℕ, ◌+◌, ◌^◌, ◌<◌, List, [], Result, 
 use Rattle.mspec.specs.Act.{Text, Act, ◌>>=◌, ◌>>◌, give, write}
 use Rattle.mmeaning.specs.Operators.{as_number, as_truth}
 use Rattle.mmeaning.specs.LineMeaning.{Go_on, Returns, Context, all_assigned, spaced_to, character_written, truth_tested, where_true, going}
-use Rattle.mmeaning.specs.Programs.{Item, Ending, Assign, Show, Tab, Character, Test, Hold, Wait, Return, Enter, Go, Kill, Lock, Indirect, Nothing}
-use Rattle.mmeaning.specs.Programs.{Loop, Pause, over, calls, enters, executes, lists, turns, begun, lock_done, looped}
+use Rattle.mmeaning.specs.Programs.{Item, Ending, Assign, Show, Tab, Character, Test, Hold, Wait, Return, Enter, Go, Kill, Merge, Lock, Indirect}
+use Rattle.mmeaning.specs.Programs.{Nothing, Loop, Pause, over, calls, enters, executes, lists, turns, begun, lock_done, looped}
+use Rattle.mmeaning.specs.Merging.{merge_found}
 use Rattle.meval.specs.Acts.{kill_act}
 use Rattle.mmeaning.specs.LineMeaning.{inside_of}
 use Rattle.mgrammar.specs.Grammar.{EntryTree, ParameterTree, CommandTree}
@@ -13,7 +14,9 @@ use Rattle.mgrammar.specs.Commands.{form_of}
 use Rattle.mgrammar.specs.CallsIn.{has_call_parameter}
 use Rattle.mtree.specs.Tree.{entry_tree, keyword_tree}
 use Rattle.mcommand.specs.ForParameters.{course_view, started}
+use Rattle.mmeaning.specs.Expression.{Depth}
 use Rattle.mlocal.specs.Bindings.{binding_of}
+use Rattle.meval.specs.Evaluates.{depth_of}
 use Rattle.moperator.specs.declared.code.Code.{Code}
 use Rattle.mprogram.specs.Wholes.{WholeTree, of_parameter, steps_of, ending_of}
 use Rattle.mcommand.specs.Steps.{items_view, value_on_top, found_on_top, targets_on_top, handing_on_top, names_on_top, item_on_top}
@@ -25,7 +28,7 @@ use Rattle.mexec.specs.declared.programs.Pause.TheVariants as pause
 
 -- the call of a function by a program of the code
 abbrev pub call_of : WholeTree → the_call.Call → Pause
-call_of w c = calls (entry_tree c.entry.now) c.test (map binding_of c.bindings.items) (drop c.at (steps_of w)) (items_view c.items.items)
+call_of w c = calls (depth_of c.depth) (entry_tree c.entry.now) c.test (map binding_of c.bindings.items) (drop c.at (steps_of w)) (items_view c.items.items)
 
 -- how far a program of the code comes by itself
 abbrev pub pause_of : WholeTree → the_pause.Pause → Pause
@@ -41,11 +44,11 @@ abbrev pub pauses : Result Completion Code → Result the_pause.Pause Code
 pauses (Ok s) = Ok (pause.Over s)
 pauses (Err c) = Err c
 
--- the call of a function, with what its actuals handed over on top; the steps from one on are left
-abbrev pub calls_with : WholeTree → EntryTree → ℕ → List Item → Act Pause
-calls_with w e at st = do
+-- the call of a function that is so deep, with what its actuals handed over on top; the steps from one on are left
+abbrev pub calls_with : WholeTree → Depth → EntryTree → ℕ → List Item → Act Pause
+calls_with w d e at st = do
   taken ← handing_on_top st
-  give (calls e taken.0.0 taken.0.1 (drop at (steps_of w)) taken.1)
+  give (calls d e taken.0.0 taken.0.1 (drop at (steps_of w)) taken.1)
 
 -- the number of a step, and a code if the machine's numbers do not go so far
 abbrev pub IsNumber : Result ℕ Code → ℕ → Type 0
@@ -86,6 +89,11 @@ ends x Kill st = do
   r ← found_on_top st
   kill_act r.0
   give (over Go_on)
+ends x Merge st = do
+  source ← found_on_top st
+  target ← found_on_top source.1
+  merge_found target.0 source.0
+  give (over Go_on)
 ends x (Lock k true) st = do
   v ← value_on_top st
   ns ← names_on_top v.1
@@ -109,5 +117,5 @@ ends x k st = do
 -- how far it comes by itself: one with a call does its program
 abbrev pub parameter_started : Context → Text → ParameterTree → List ParameterTree → List CommandTree → Act Pause
 parameter_started x index q rest body =
-    cond (has_call_parameter q) (begun x (steps_of (of_parameter index q rest body)) (ending_of (of_parameter index q rest body)) [])
+    cond (has_call_parameter q) (begun x x.position.depth (steps_of (of_parameter index q rest body)) (ending_of (of_parameter index q rest body)) [])
     (started (inside_of x) index q >>= (λ c. give (turns c)))

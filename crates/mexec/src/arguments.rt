@@ -164,6 +164,7 @@ fn argument<'t, S: NodeStore>(
         Arg::Lock(kind, names, timeout) => done(parts.locking(alloc, *kind, names, timeout)),
         Arg::HangFor(seconds) => done(parts.hanging(alloc, seconds)),
         Arg::Returned(e) => over(returning(alloc, parts, position, e)),
+        Arg::MergeOne(target, source) => done(parts.merging(alloc, target, source)),
         Arg::Indirect(keyword, operand) => {
             Ok(Progress::Stops(Entrance::Indirect(*keyword, operand)))
         }
@@ -209,7 +210,8 @@ fn program_begun<'t, S: NodeStore>(
 {
     let before = parts.eval.steps;
     let whole = Whole::Argument(arg);
-    let pause = begun(alloc, parts, position, whole, 0, Vec::new(alloc))?;
+    let depth = position.depth;
+    let pause = begun(alloc, parts, position, whole, depth, 0, Vec::new(alloc))?;
     match pause {
         Pause::Over(completion) => Ok(Progress::Over(completion)),
         other => {

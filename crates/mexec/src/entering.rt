@@ -7,7 +7,7 @@ ghost use Rattle.mgrammar.specs.RoutineLine.{formals_of};
 ghost use Rattle.mmeaning.specs.Levels.{a_level_free, leaves};
 ghost use Rattle.mmeaning.specs.Parameters.{formals_for as meant_formals_for, with_formals};
 ghost use Rattle.mmeaning.specs.LineMeaning as meaning;
-ghost use Rattle.mmeaning.specs.LineMeaning.{context};
+ghost use Rattle.mmeaning.specs.LineMeaning.{at_depth, context};
 ghost use Rattle.mmeaning.specs.Frames.{Rests, Levels};
 ghost use Rattle.mlocal.specs.Bindings.{binding_of, bindings_of};
 ghost use Rattle.mmeaning.specs.Programs.{listed};
@@ -72,8 +72,10 @@ fn open_with<S: NodeStore>(
     }
 }
 
-// What opens a level of a routine: the entry, whether a list of actuals is written, what they hand over, and how the level closes.
+// What opens a level of a routine: how deep that is, the entry, whether a list of actuals is written, what they hand over, and how the level
+// closes.
 pub(crate) struct Opening<'t> {
+    pub(crate) depth: Depth,
     pub(crate) entry: &'t Entry,
     pub(crate) is_listed: bool,
     pub(crate) bindings: Vec<Binding>,
@@ -150,16 +152,17 @@ pub(crate) fn entering<S: NodeStore>(
     scratch: &mut Scratch,
 ) -> Result<Completion, Code>
     ensures falls { FallsByEntry parts.old scratch.old result parts.new scratch.new }
-    ensures does { Runs S.NodeStore (λ a n. meaning.entering (context a n (position_of position.now)) (entry_tree opening.entry.entry.now) (listed opening.entry.is_listed) (map binding_of opening.entry.bindings.items) (closing_of opening.entry.closing))
+    ensures does { Runs S.NodeStore (λ a n. meaning.entering (at_depth (context a n (position_of position.now)) (depth_of opening.entry.depth)) (entry_tree opening.entry.entry.now) (listed opening.entry.is_listed) (map binding_of opening.entry.bindings.items) (closing_of opening.entry.closing))
         (stack scratch.old.frames.items) parts.old result (stack scratch.new.frames.items) parts.new }
 {
     let Opening {
+        depth: outer,
         entry,
         is_listed,
         bindings,
         closing,
     } = opening;
-    let depth = one_deeper(parts, position.depth, wants_value(closing))?;
+    let depth = one_deeper(parts, outer, wants_value(closing))?;
     let target = parts.target(alloc, &position.level.copy, 0, entry)?;
     let trees = &mut scratch.trees;
     let formals = formals_of_target(alloc, parts, trees, is_listed, &target, bindings)?;
@@ -190,6 +193,7 @@ pub(crate) fn doing<S: NodeStore>(
     parts.eval.depth = position.depth;
     let bindings = parts.handed_over(alloc, &called.actuals)?;
     let opening = Opening {
+        depth: position.depth,
         entry: &called.entry,
         is_listed: !called.actuals.is_empty(),
         bindings,

@@ -80,6 +80,7 @@ fn bare<'t, S: NodeStore>(
             parts.release();
             over(Ok(Completion::GoOn))
         }
+        Keyword::Merge => over(Ok(Completion::GoOn)),
         Keyword::Halt => Err(Code::Halting),
         Keyword::Hang => over(Ok(Completion::GoOn)),
         Keyword::HaltOrHang => Err(Code::Halting),

@@ -17,6 +17,7 @@ ghost use Rattle.moperator.specs.declared.code.Code.TheVariants.{Zmem};
 ghost use Rattle.mtree.specs.Tree.{choice_tree, entry_tree, expr_tree, kind_tree};
 ghost use Rattle.mprogram.specs.Wholes.{WholeTree, steps_of, ending_of as the_ending_of};
 ghost use Rattle.mprogram.specs.Views.{ending_view, whole_view};
+ghost use Rattle.meval.specs.Evaluates.{depth_of};
 ghost use Rattle.mcommand.specs.Does.{DoesAt};
 ghost use Rattle.mcommand.specs.Steps.{items_view};
 ghost use Rattle.mexec.specs.Falls.{Falls, FallsByTwo, FallsFurther};
@@ -35,8 +36,10 @@ use crate::source::Place;
 use crate::suspended::Suspended;
 use crate::turns::turned;
 use mcommand::{
-    Course, Item, Parts, take_found, take_handing, take_item, take_names, take_targets, take_value,
+    Course, Item, Parts, attach_step, take_found, take_handing, take_item, take_names,
+    take_targets, take_value,
 };
+use meval::Depth;
 use mlocal::Binding;
 use mnodes::NodeStore;
 use mnum::Name;
@@ -46,10 +49,11 @@ use mtree::{Choice, Entry, Expr, Keyword, LockKind};
 use mvalue::Value;
 use std::alloc::Global;
 
-// The call of a function: where that stands, what `$TEST` was before its actuals, what these hand over, and what is then left of the
-// program: its steps from one on, and its stack.
+// The call of a function: how deep it is, where the function stands, what `$TEST` was before its actuals, what these hand over, and what is
+// then left of the program: its steps from one on, and its stack.
 #[derive(Drop)]
 pub(crate) struct Call<'t> {
+    pub(crate) depth: Depth,
     pub(crate) entry: &'t Entry,
     pub(crate) test: bool,
     pub(crate) bindings: Vec<Binding>,
@@ -80,13 +84,19 @@ fn paused<'t>(completion: Result<Completion, Code>) -> Result<Pause<'t>, Code>
     }
 }
 
-// At the call of a function, after which the steps from one on are left.
-fn called<'t>(entry: &'t Entry, at: usize, items: Vec<Item>) -> Result<Pause<'t>, Code>
-    ensures { (w : WholeTree) → Yields fault_of (calls_with w (entry_tree entry.now) at (items_view items.items)) (pause_of w) result }
+// At the call of a function that is so deep, after which the steps from one on are left.
+fn called<'t>(
+    depth: Depth,
+    entry: &'t Entry,
+    at: usize,
+    items: Vec<Item>,
+) -> Result<Pause<'t>, Code>
+    ensures { (w : WholeTree) → Yields fault_of (calls_with w (depth_of depth) (entry_tree entry.now) at (items_view items.items)) (pause_of w) result }
 {
     let mut items = items;
     let (test, bindings) = take_handing(&mut items)?;
     Ok(Pause::Calls(Call {
+        depth,
         entry,
         test,
         bindings,
@@ -122,6 +132,21 @@ fn killed<'t, S: NodeStore>(
     let mut items = items;
     let pending = take_found(&mut items)?;
     paused(went_on(parts.kill_found(alloc, pending)))
+}
+
+// MERGE, in the end.
+fn merged<'t, S: NodeStore>(
+    alloc: Global,
+    parts: &mut Parts<S>,
+    items: Vec<Item>,
+) -> Result<Pause<'t>, Code>
+    ensures { (x : meaning.Context) (w : WholeTree) → DoesAt S.NodeStore (λ a n. ends x programs.Merge (items_view items.items))
+        (pause_of w) parts.old result parts.new }
+{
+    let mut items = items;
+    let source = take_found(&mut items)?;
+    let target = take_found(&mut items)?;
+    paused(went_on(parts.merge_found(alloc, target, source)))
 }
 
 // LOCK with a timeout, in the end.
@@ -246,6 +271,7 @@ fn ended<'t, S: NodeStore>(
         Ending::Enter(entry, is_listed) => entered(entry, is_listed, items),
         Ending::Go(entry) => paused(leads_to(alloc, parts, position, entry)),
         Ending::Kill => killed(alloc, parts, items),
+        Ending::Merge => merged(alloc, parts, items),
         Ending::Lock(kind, is_timed) => locked(alloc, parts, kind, is_timed, items),
         Ending::Nothing => Ok(Pause::Over(Completion::GoOn)),
         Ending::Loop(index, _, _) => looped(parts, index, items),
@@ -311,27 +337,39 @@ fn chosen(at: usize, value: &Expr, items: &mut Vec<Item>) -> Result<usize, Code>
     past_value(at, value)
 }
 
-// A program from one of its steps on, with this stack, as far as it comes by itself. A text may be entered in it, as within a command.
+// A program from one of its steps on, which is so deep, with this stack, as far as it comes by itself. A text may be entered in it, as within
+// a command.
 pub(crate) fn begun<'t, S: NodeStore>(
     alloc: Global,
     parts: &mut Parts<S>,
     position: &Position,
     whole: Whole<'t>,
+    depth: Depth,
     from: usize,
     items: Vec<Item>,
 ) -> Result<Pause<'t>, Code>
-    ensures { DoesAt S.NodeStore (λ a n. programs.begun (context a (suc n) (position_of position.now)) (drop from (steps_of (whole_view whole.entry))) (the_ending_of (whole_view whole.entry)) (items_view items.items))
+    ensures { DoesAt S.NodeStore (λ a n. programs.begun (context a (suc n) (position_of position.now)) (depth_of depth) (drop from (steps_of (whole_view whole.entry))) (the_ending_of (whole_view whole.entry)) (items_view items.items))
         (pause_of (whole_view whole.entry)) parts.old result parts.new }
 {
-    parts.eval.depth = position.depth;
+    parts.eval.depth = depth;
     let mut stack = items;
     let mut at = from;
     while let Some(op) = op_at(whole, at) {
         let next = after_step(at)?;
         match op {
-            Op::Call(entry) => return called(entry, next, stack),
+            Op::Call(entry) => return called(parts.eval.depth, entry, next, stack),
             Op::Unless(value) => at = chosen(next, value, &mut stack)?,
             Op::Pass(choices) => at = past_choices(next, choices)?,
+            Op::Deeper => {
+                let deeper = parts.deeper_step(alloc, &mut stack)?;
+                parts.eval.depth = deeper;
+                at = next;
+            }
+            Op::Attach => {
+                let outer = attach_step(alloc, &mut stack)?;
+                parts.eval.depth = outer;
+                at = next;
+            }
             other => {
                 let goes_on = parts.step(alloc, other, &mut stack)?;
                 if !goes_on {
@@ -359,14 +397,16 @@ pub(crate) fn calling<S: NodeStore>(
         (stack scratch.old.frames.items) parts.old result (stack scratch.new.frames.items) parts.new }
 {
     let Call {
+        depth,
         entry,
         test,
         bindings,
         at,
         items,
     } = call;
-    place.leave(alloc, at, items, scratch)?;
+    place.leave(alloc, depth, at, items, scratch)?;
     let opening = Opening {
+        depth,
         entry,
         is_listed: true,
         bindings,
@@ -390,6 +430,7 @@ fn entering_lines<S: NodeStore>(
         (stack scratch.old.frames.items) parts.old result (stack scratch.new.frames.items) parts.new }
 {
     let opening = Opening {
+        depth: position.depth,
         entry,
         is_listed,
         bindings,
@@ -464,33 +505,36 @@ pub(crate) fn first_begun<'t, S: NodeStore>(
     place: Place<'t>,
 ) -> Result<Pause<'t>, Code>
     ensures { (w : WholeTree) → whole_at place.entry ≡ Some w
-        → DoesAt S.NodeStore (λ a n. programs.begun (context a (suc n) (position_of (place_position place.entry))) (steps_of w) (the_ending_of w) [])
+        → DoesAt S.NodeStore (λ a n. programs.begun (context a (suc n) (position_of (place_position place.entry))) (depth_of (place_position place.entry).depth) (steps_of w) (the_ending_of w) [])
         (pause_of w) parts.old result parts.new }
 {
     let Some(whole) = place.whole() else {
         return Err(Code::Zmem);
     };
-    begun(alloc, parts, place.position(), whole, 0, Vec::new(alloc))
+    let position = place.position();
+    let depth = position.depth;
+    begun(alloc, parts, position, whole, depth, 0, Vec::new(alloc))
 }
 
-// A program from one of its steps on, with this stack.
+// A program from one of its steps on, which is so deep, with this stack.
 fn carried<S: NodeStore>(
     alloc: Global,
     parts: &mut Parts<S>,
     place: Place,
+    depth: Depth,
     from: usize,
     items: Vec<Item>,
     scratch: &mut Scratch,
 ) -> Result<Completion, Code>
     requires { is_some (whole_at place) ≡ true }
     ensures falls { FallsByTwo parts.old scratch.old result parts.new scratch.new }
-    ensures does { RunsFurther S.NodeStore (λ a n. programs.carried (context a n (position_of (place_position place.entry))) (drop from (steps_within (whole_at place.entry))) (ending_within (whole_at place.entry)) (items_view items.items))
+    ensures does { RunsFurther S.NodeStore (λ a n. programs.carried (context a n (position_of (place_position place.entry))) (depth_of depth) (drop from (steps_within (whole_at place.entry))) (ending_within (whole_at place.entry)) (items_view items.items))
         (stack scratch.old.frames.items) parts.old result (stack scratch.new.frames.items) parts.new }
 {
     let Some(whole) = place.whole() else {
         return Err(Code::Zsyntax);
     };
-    let pause = begun(alloc, parts, place.position(), whole, from, items)?;
+    let pause = begun(alloc, parts, place.position(), whole, depth, from, items)?;
     resume(alloc, parts, place, pause, scratch)
 }
 
@@ -504,7 +548,7 @@ pub(crate) fn after_call<S: NodeStore>(
     scratch: &mut Scratch,
 ) -> Result<Completion, Code>
     ensures falls { FallsByTwo parts.old scratch.old result parts.new scratch.new }
-    ensures does { RunsFurther S.NodeStore (λ a n. frame a n (Programs (position_of (holder_position suspended.value.holder)) (drop suspended.value.at (steps_within (whole_of suspended.value.holder))) (ending_within (whole_of suspended.value.holder)) (items_view suspended.value.items.items)) (completion_of completion))
+    ensures does { RunsFurther S.NodeStore (λ a n. frame a n (Programs (position_of (holder_position suspended.value.holder)) (depth_of suspended.value.depth) (drop suspended.value.at (steps_within (whole_of suspended.value.holder))) (ending_within (whole_of suspended.value.holder)) (items_view suspended.value.items.items)) (completion_of completion))
         (stack scratch.old.frames.items) parts.old result (stack scratch.new.frames.items) parts.new }
 {
     let Completion::Returns(value) = completion else {
@@ -512,9 +556,10 @@ pub(crate) fn after_call<S: NodeStore>(
     };
     let Suspended {
         holder,
+        depth,
         at,
         mut items,
     } = Box::into_inner(suspended);
     items.push(Item::Value(Box::into_inner(value)))?;
-    carried(alloc, parts, holder.place(), at, items, scratch)
+    carried(alloc, parts, holder.place(), depth, at, items, scratch)
 }

@@ -3,6 +3,7 @@
 ghost use Rattle.std.specs.Prelude.{◌≡◌, ◌≤◌, ◌+◌, ◌∷◌, is_some, true, map, option_map, drop, length, IfOk, IfSome, OnOk};
 ghost use Rattle.mmeaning.specs.Frames.{Lists, Programs};
 ghost use Rattle.mprogram.specs.Views.{body_tree, whole_view};
+ghost use Rattle.meval.specs.Evaluates.{depth_of};
 ghost use Rattle.mcommand.specs.Steps.{items_view};
 ghost use Rattle.mexec.specs.Wholes.{argument_of, condition_of, parameter_in, parameter_of, whole_of, steps_within, ending_within};
 ghost use Rattle.mexec.specs.Places.{whole_at, place_position};
@@ -17,6 +18,7 @@ use crate::holder::Holder;
 use crate::scratch::Scratch;
 use crate::suspended::Suspended;
 use mcommand::Item;
+use meval::Depth;
 use mnum::Name;
 use mprogram::Whole;
 use mtree::{Arg, Line, Parameter, Spaced};
@@ -227,20 +229,26 @@ impl<'t> Place<'t> {
         }
     }
 
-    // Leaves what is left of its program after the call of a function on the frames.
+    // Leaves what is left of its program after the call of a function that is so deep on the frames.
     pub(crate) fn leave(
         self,
         alloc: Global,
+        depth: Depth,
         at: usize,
         items: Vec<Item>,
         scratch: &mut Scratch,
     ) -> Result<(), AllocError>
         requires { is_some (whole_at self) ≡ true }
-        ensures frames { OnOk result (stack scratch.new.frames.items ≡ Programs (position_of (place_position self.entry)) (drop at (steps_within (whole_at self.entry))) (ending_within (whole_at self.entry)) (items_view items.items) ∷ stack scratch.old.frames.items) }
+        ensures frames { OnOk result (stack scratch.new.frames.items ≡ Programs (position_of (place_position self.entry)) (depth_of depth) (drop at (steps_within (whole_at self.entry))) (ending_within (whole_at self.entry)) (items_view items.items) ∷ stack scratch.old.frames.items) }
         ensures most { OnOk result (size scratch.new.frames.items ≤ size scratch.old.frames.items + 3) }
     {
         let holder = self.holder()?;
-        let suspended = Suspended { holder, at, items };
+        let suspended = Suspended {
+            holder,
+            depth,
+            at,
+            items,
+        };
         scratch
             .frames
             .push(Frame::Program(Box::new(alloc, suspended)?))?;

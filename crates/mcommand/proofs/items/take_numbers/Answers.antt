@@ -36,5 +36,8 @@ returns-in-Handing c = refused numbers_on_top _ _ _ _ _ c.pop.ensures.items c.in
 pub returns-in-Numbers : goal.returns-in-Numbers
 returns-in-Numbers c = taken numbers_on_top _ _ _ _ _ c.pop.ensures.items c.in-Some.is c.in-Numbers.is refl
 
+pub returns-in-Outside : goal.returns-in-Outside
+returns-in-Outside c = refused numbers_on_top _ _ _ _ _ c.pop.ensures.items c.in-Some.is c.in-Outside.is refl
+
 pub returns : goal.returns
 returns c = refused numbers_on_top _ _ _ _ _ c.pop.ensures.items c.in-Some.is c.in-Names.is refl

@@ -2,11 +2,12 @@
 use Rattle.mexec.proofs.ExecLaws.{Ok, [], ◌∷◌, refl, with_locals, killed_except, newed, newed_except, form_of, destination_tree, expr_tree, reference_tree}
 use Rattle.mexec.proofs.ExecLaws.{condition_tree, kind_tree, locked_tree, keyword_tree, primary_tree, called_tree, does_evaluated, at_done, stops, into_given}
 use Rattle.mexec.proofs.ExecLaws.{entrance_of, start_of, completion_of, position_of, at_as, at_gives, at_depth, goes_on, goes_here, gives_over, enters_where}
-use Rattle.mexec.proofs.ExecLaws.{entered_where, neither, where_enters, coding_here, formatting_here, hanging_here, killing_here, locking_here, returning_here}
-use Rattle.mexec.proofs.ExecLaws.{setting_here, showing_here, testing_here}
+use Rattle.mexec.proofs.ExecLaws.{entered_where, neither, where_enters, coding_here, formatting_here, hanging_here, killing_here, locking_here, merging_here}
+use Rattle.mexec.proofs.ExecLaws.{returning_here, setting_here, showing_here, testing_here}
 use Rattle.mgrammar.specs.CallsIn.{has_call, has_call_actuals, has_call_optional}
 use Rattle.mmeaning.specs.LineMeaning as meaning
 use Rattle.mmeaning.specs.Locking.{locking}
+use Rattle.mmeaning.specs.Merging.{merging}
 use Rattle.mexec.specs.Arguments.{IsReady}
 use Rattle.mexec.specs.declared.completion.Completion.TheVariants as completion
 use Rattle.mexec.proofs.arguments.argument.Goals as goal
@@ -41,6 +42,16 @@ returns-in-KillOne-clause-does g c =
     let quiet = rw c.in-KillOne.is at c.requires in
     let p = c.args.position.now in
     rw (c.in-KillOne.is, c.done-in-KillOne.ensures) (gives_over entrance_of _ (goes_here p (λ i. meaning.killing i (reference_tree c.in-KillOne.reference)) (killing_here (position_of p) (reference_tree c.in-KillOne.reference) quiet) c.killing.result c.killing.ensures))
+
+pub returns-in-MergeOne-clause-does : goal.returns-in-MergeOne-clause-does
+returns-in-MergeOne-clause-does g c =
+    let quiet = rw c.in-MergeOne.is at c.requires in
+    let p = c.args.position.now in
+    let target = reference_tree c.in-MergeOne.target in
+    let source = reference_tree c.in-MergeOne.source in
+    rw (c.in-MergeOne.is, c.done-in-MergeOne.ensures)
+    (gives_over entrance_of _
+    (goes_here p (λ i. merging i target source) (merging_here (position_of p) target source quiet) c.merging.result c.merging.ensures))
 
 pub returns-in-NewOne-clause-does : goal.returns-in-NewOne-clause-does
 returns-in-NewOne-clause-does g c =

@@ -25,7 +25,7 @@ returns-in_err-pause-clause-does g c =
     let w = condition_whole o c.requires.calls in
     runs_as (λ a n. condition_pauses a n p (rest_tree behind) o w.0 w.1 c.requires.calls c.requires.stepped)
     (frame_below (Conditions p (command_in o) (rest_tree behind)) (λ s n h. h)
-    (further_ended (λ s n h. h) (λ a n. begun (context a n p) (steps_of w.0) (ending_of w.0) []) (λ a n. resumed a n p (ending_of w.0))
+    (further_ended (λ s n h. h) (λ a n. begun (context a n p) p.depth (steps_of w.0) (ending_of w.0) []) (λ a n. resumed a n p (ending_of w.0))
     (c.in_err-pause.ensures w.0 w.1) c.from_residual-in_err-pause.ensures))
 
 pub returns-in-Over-clause-does : goal.returns-in-Over-clause-does
@@ -39,7 +39,8 @@ returns-in-Over-clause-does g c =
     rw (c.in_ok-push.ensures.items, stack_push, c.in_ok-copy.ensures.position, c.in_ok-copy.ensures.line, c.in_ok-copy.ensures.at)
     (runs_as (λ a n. condition_pauses a n p (rest_tree behind) o w.0 w.1 c.requires.calls c.requires.stepped)
     (frame_below (Conditions p (command_in o) (rest_tree behind)) (λ s n h. h)
-    (further_if (λ s n h. h) (λ a n. begun (context a n p) (steps_of w.0) (ending_of w.0) []) (λ a n. resumed a n p (ending_of w.0)) {more = λ s n. s < n}
+    (further_if (λ s n h. h) (λ a n. begun (context a n p) p.depth (steps_of w.0) (ending_of w.0) [])
+    (λ a n. resumed a n p (ending_of w.0)) {more = λ s n. s < n}
     does (λ n h. omega (arith, h, few)) (runs_completion c.in-Over.completion))))
 
 pub returns-in-Over-clause-falls : goal.returns-in-Over-clause-falls
@@ -59,7 +60,8 @@ returns-in_err-one_spent-in_default-clause-does g c =
     let wants = rw c.in_err-one_spent-in_default.ensures.wants at c.from_residual-in_err-one_spent-in_default.ensures in
     runs_as (λ a n. condition_pauses a n p (rest_tree behind) o w.0 w.1 c.requires.calls c.requires.stepped)
     (frame_below (Conditions p (command_in o) (rest_tree behind)) (λ s n h. h)
-    (further_if (λ s n h. h) (λ a n. begun (context a n p) (steps_of w.0) (ending_of w.0) []) (λ a n. resumed a n p (ending_of w.0)) {more = λ s n. s < n}
+    (further_if (λ s n h. h) (λ a n. begun (context a n p) p.depth (steps_of w.0) (ending_of w.0) [])
+    (λ a n. resumed a n p (ending_of w.0)) {more = λ s n. s < n}
     does (λ n h. omega (arith, h, few)) (runs_wanting _ _ wants)))
 
 pub returns-in_ok-one_spent-in_default-clause-does : goal.returns-in_ok-one_spent-in_default-clause-does
@@ -73,7 +75,8 @@ returns-in_ok-one_spent-in_default-clause-does g c =
     let goes = rw (c.in_ok-copy.ensures.position, c.in_ok-copy.ensures.line, c.in_ok-copy.ensures.at) at pushed in
     runs_as (λ a n. condition_pauses a n p (rest_tree behind) o w.0 w.1 c.requires.calls c.requires.stepped)
     (frame_below (Conditions p (command_in o) (rest_tree behind)) (λ s n h. h)
-    (further_if (λ s n h. h) (λ a n. begun (context a n p) (steps_of w.0) (ending_of w.0) []) (λ a n. resumed a n p (ending_of w.0)) {more = λ s n. suc s < n}
+    (further_if (λ s n h. h) (λ a n. begun (context a n p) p.depth (steps_of w.0) (ending_of w.0) [])
+    (λ a n. resumed a n p (ending_of w.0)) {more = λ s n. suc s < n}
     (c.in_ok-pause.ensures w.0 w.1) (λ n h. omega (arith, h, less)) goes))
 
 pub returns-in_ok-one_spent-in_default-clause-falls : goal.returns-in_ok-one_spent-in_default-clause-falls

@@ -1,5 +1,5 @@
 -- SPDX-License-Identifier: Apache-2.0
-use Rattle.mexec.proofs.ExecLaws.{Some, ap, List, Option, refl, sym, map, ◌>>=◌, ◌>>◌, Act, Text, Target, Level, deeper, target, Context, context, closed}
+use Rattle.mexec.proofs.ExecLaws.{Some, List, Option, refl, sym, map, ◌>>=◌, ◌>>◌, Act, Text, Target, Level, deeper, target, Context, context, closed}
 use Rattle.mexec.proofs.ExecLaws.{closing_of, in_level, depth_of, entry_tree, position_of, Position, Completion, runs_as, runs_then, runs_stopped, at_any}
 use Rattle.mexec.proofs.ExecLaws.{is_within, target_entered, lines_opened}
 use Rattle.mspec.specs.Scopes.{Binding}
@@ -11,6 +11,7 @@ use Rattle.mmeaning.specs.Parameters.{formals_of_target, formals_for, with_forma
 use Rattle.mmeaning.specs.Programs.{listed}
 use Rattle.mmeaning.specs.LineMeaning.{lines_called}
 use Rattle.mcommand.specs.Targets.{target_view}
+use Rattle.mexec.specs.Entering.{so_deep}
 use Rattle.mexec.proofs.entering.entering.Goals as goal
 
 -- once the formal parameters are known
@@ -23,13 +24,13 @@ found x c xs bs t = formals_of_target t >>= (λ names. formals_for xs names bs >
 
 pub returns-in_err-depth-clause-does : goal.returns-in_err-depth-clause-does
 returns-in_err-depth-clause-does g c =
-    let p = position_of c.args.position.now in
+    let p = so_deep (depth_of c.args.opening.depth) (position_of c.args.position.now) in
     let o = c.args.opening in
     runs_stopped (λ a n _. target p.level.copy 0 (entry_tree o.entry.now) >>= found (context a n p) (closing_of o.closing) (listed o.is_listed) (map binding_of o.bindings.items)) c.in_err-depth.ensures.does c.from_residual.ensures
 
 pub returns-in_err-target-clause-does : goal.returns-in_err-target-clause-does
 returns-in_err-target-clause-does g c =
-    let p = position_of c.args.position.now in
+    let p = so_deep (depth_of c.args.opening.depth) (position_of c.args.position.now) in
     let o = c.args.opening in
     let bs = map binding_of o.bindings.items in
     runs_then (λ a n _. target p.level.copy 0 (entry_tree o.entry.now) >>= found (context a n p) (closing_of o.closing) (listed o.is_listed) bs) c.in_ok-depth.ensures.does
@@ -37,7 +38,7 @@ returns-in_err-target-clause-does g c =
 
 pub returns-in_err-formals-clause-does : goal.returns-in_err-formals-clause-does
 returns-in_err-formals-clause-does g c =
-    let p = position_of c.args.position.now in
+    let p = so_deep (depth_of c.args.opening.depth) (position_of c.args.position.now) in
     let o = c.args.opening in
     let k = closing_of o.closing in
     let xs = listed o.is_listed in
@@ -50,7 +51,7 @@ returns-in_err-formals-clause-does g c =
 
 pub returns-in_err-open_with-clause-does : goal.returns-in_err-open_with-clause-does
 returns-in_err-open_with-clause-does g c =
-    let p = position_of c.args.position.now in
+    let p = so_deep (depth_of c.args.opening.depth) (position_of c.args.position.now) in
     let o = c.args.opening in
     let k = closing_of o.closing in
     let xs = listed o.is_listed in
@@ -65,7 +66,7 @@ returns-in_err-open_with-clause-does g c =
 
 pub returns-clause-does : goal.returns-clause-does
 returns-clause-does g c =
-    let p = position_of c.args.position.now in
+    let p = so_deep (depth_of c.args.opening.depth) (position_of c.args.position.now) in
     let o = c.args.opening in
     let k = closing_of o.closing in
     let xs = listed o.is_listed in

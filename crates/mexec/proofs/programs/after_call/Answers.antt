@@ -1,5 +1,5 @@
 -- SPDX-License-Identifier: Apache-2.0
-use Rattle.mexec.proofs.ExecLaws.{◌∷◌, refl, drop, context, position_of, runs_as, runs_wanting, further_failed}
+use Rattle.mexec.proofs.ExecLaws.{◌∷◌, refl, drop, context, depth_of, position_of, runs_as, runs_wanting, further_failed}
 use Rattle.mmeaning.specs.Programs.{carried, one_value}
 use Rattle.mcommand.specs.Steps.{items_view}
 use Rattle.mexec.specs.Frames.{holder_position}
@@ -23,5 +23,7 @@ pub returns-in_default-clause-does : goal.returns-in_default-clause-does
 returns-in_default-clause-does g c =
     let s = c.args.suspended.value in
     let p = position_of (holder_position s.holder) in
-    further_failed (λ a n v. carried (context a n p) (drop s.at (steps_within (whole_of s.holder))) (ending_within (whole_of s.holder)) (one_value v ∷ items_view s.items.items))
+    further_failed
+    (λ a n v. carried (context a n p) (depth_of s.depth) (drop s.at (steps_within (whole_of s.holder))) (ending_within (whole_of s.holder))
+    (one_value v ∷ items_view s.items.items))
     (value_lacks c.args.completion c.in_default.not-Returns) (refl, refl)

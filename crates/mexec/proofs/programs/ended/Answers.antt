@@ -22,6 +22,9 @@ returns-in-Go g c = λ w. rw (c.in-Go.is, c.paused.ensures) (pauses_over w c.lea
 pub returns-in-Kill : goal.returns-in-Kill
 returns-in-Kill g c = λ w. rw c.in-Kill.is (c.killed.ensures (context [] 0 (position_of c.args.position.now)) w)
 
+pub returns-in-Merge : goal.returns-in-Merge
+returns-in-Merge g c = λ w. rw c.in-Merge.is (c.merged.ensures (context [] 0 (position_of c.args.position.now)) w)
+
 pub returns-in-Lock : goal.returns-in-Lock
 returns-in-Lock g c = λ w. rw c.in-Lock.is (c.locked.ensures (context [] 0 (position_of c.args.position.now)) w)
 
@@ -33,10 +36,16 @@ returns-in-Loop g c = λ w. rw c.in-Loop.is (c.looped.ensures (context [] 0 (pos
 
 pub returns-in_err-value-in_default : goal.returns-in_err-value-in_default
 returns-in_err-value-in_default g c = λ w.
-    at_as (λ a n. ends_by_value (context a n (position_of c.args.position.now)) c.args.ending (items_view c.args.items.items) c.in_default.not-Assign c.in_default.not-Enter c.in_default.not-Go c.in_default.not-Kill c.in_default.not-Lock c.in_default.not-Nothing c.in_default.not-Loop)
+    at_as
+    (λ a n. ends_by_value (context a n (position_of c.args.position.now)) c.args.ending (items_view c.args.items.items) c.in_default.not-Assign
+    c.in_default.not-Enter c.in_default.not-Go c.in_default.not-Kill c.in_default.not-Merge c.in_default.not-Lock c.in_default.not-Nothing
+    c.in_default.not-Loop)
     (at_stopped (λ a n v. ends_with (ending_view c.args.ending) v.0) (at_yielded c.in_err-value-in_default.ensures) c.from_residual.ensures)
 
 pub returns-in_ok-value-in_default : goal.returns-in_ok-value-in_default
 returns-in_ok-value-in_default g c = λ w.
-    at_as (λ a n. ends_by_value (context a n (position_of c.args.position.now)) c.args.ending (items_view c.args.items.items) c.in_default.not-Assign c.in_default.not-Enter c.in_default.not-Go c.in_default.not-Kill c.in_default.not-Lock c.in_default.not-Nothing c.in_default.not-Loop)
+    at_as
+    (λ a n. ends_by_value (context a n (position_of c.args.position.now)) c.args.ending (items_view c.args.items.items) c.in_default.not-Assign
+    c.in_default.not-Enter c.in_default.not-Go c.in_default.not-Kill c.in_default.not-Merge c.in_default.not-Lock c.in_default.not-Nothing
+    c.in_default.not-Loop)
     (at_then (λ a n v. ends_with (ending_view c.args.ending) v.0) (at_yielded c.in_ok-value-in_default.ensures) (c.ended_with.ensures w))

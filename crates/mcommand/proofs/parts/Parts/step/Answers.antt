@@ -92,6 +92,9 @@ returns-in-Order g c = rw c.in-Order.is (within_any c.order_step.ensures)
 pub returns-in-TellName : goal.returns-in-TellName
 returns-in-TellName g c = rw c.in-TellName.is (within_any c.tell_name_step.ensures)
 
+pub returns-in-Increment : goal.returns-in-Increment
+returns-in-Increment g c = rw c.in-Increment.is (within_any c.increment_step.ensures)
+
 pub returns-in-Seek : goal.returns-in-Seek
 returns-in-Seek g c = rw c.in-Seek.is (within_any c.seek_step.ensures)
 
@@ -142,3 +145,9 @@ returns-in-Numbers g c =
 
 pub returns-in-Number : goal.returns-in-Number
 returns-in-Number g c = rw c.in-Number.is (within_any (does_yielded c.number_step.ensures))
+
+pub returns-in-Deeper : goal.returns-in-Deeper
+returns-in-Deeper g c = rw c.in-Deeper.is (within_any (does_yielded (record { ends = λ s. refl })))
+
+pub returns-in-Attach : goal.returns-in-Attach
+returns-in-Attach g c = rw c.in-Attach.is (within_any (does_yielded (record { ends = λ s. refl })))

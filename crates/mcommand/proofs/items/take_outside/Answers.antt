@@ -1,0 +1,43 @@
+-- SPDX-License-Identifier: Apache-2.0
+use Rattle.mcommand.proofs.CommandLaws.{refl, arith}
+use Rattle.mcommand.specs.Steps.{outside_on_top}
+use Rattle.mcommand.proofs.StepItems.{taken, refused, missing}
+use Rattle.mcommand.proofs.items.take_outside.Goals as goal
+
+pub returns-in_default : goal.returns-in_default
+returns-in_default c =
+    let none = rw c.in_default.is at c.pop.ensures.cases in
+    missing outside_on_top c.args.items.now.items (omega (arith, c.args.items.now.ok, none)) refl
+
+pub returns-in-Value : goal.returns-in-Value
+returns-in-Value c = refused outside_on_top _ _ _ _ _ c.pop.ensures.items c.in-Some.is c.in-Value.is refl
+
+pub returns-in-Values : goal.returns-in-Values
+returns-in-Values c = refused outside_on_top _ _ _ _ _ c.pop.ensures.items c.in-Some.is c.in-Values.is refl
+
+pub returns-in-Found : goal.returns-in-Found
+returns-in-Found c = refused outside_on_top _ _ _ _ _ c.pop.ensures.items c.in-Some.is c.in-Found.is refl
+
+pub returns-in-Placed : goal.returns-in-Placed
+returns-in-Placed c = refused outside_on_top _ _ _ _ _ c.pop.ensures.items c.in-Some.is c.in-Placed.is refl
+
+pub returns-in-Walked : goal.returns-in-Walked
+returns-in-Walked c = refused outside_on_top _ _ _ _ _ c.pop.ensures.items c.in-Some.is c.in-Walked.is refl
+
+pub returns-in-Sought : goal.returns-in-Sought
+returns-in-Sought c = refused outside_on_top _ _ _ _ _ c.pop.ensures.items c.in-Some.is c.in-Sought.is refl
+
+pub returns-in-Made : goal.returns-in-Made
+returns-in-Made c = refused outside_on_top _ _ _ _ _ c.pop.ensures.items c.in-Some.is c.in-Made.is refl
+
+pub returns-in-Handing : goal.returns-in-Handing
+returns-in-Handing c = refused outside_on_top _ _ _ _ _ c.pop.ensures.items c.in-Some.is c.in-Handing.is refl
+
+pub returns-in-Numbers : goal.returns-in-Numbers
+returns-in-Numbers c = refused outside_on_top _ _ _ _ _ c.pop.ensures.items c.in-Some.is c.in-Numbers.is refl
+
+pub returns-in-Outside : goal.returns-in-Outside
+returns-in-Outside c = taken outside_on_top _ _ _ _ _ c.pop.ensures.items c.in-Some.is c.in-Outside.is refl
+
+pub returns : goal.returns
+returns c = refused outside_on_top _ _ _ _ _ c.pop.ensures.items c.in-Some.is c.in-Names.is refl

@@ -67,7 +67,7 @@ _COMMANDS = [
     _later(1, _word("HANG", "HANG", "leave it out, and wait in the client; nothing waits in the server.", "HANG 5")),
     _later(1, Cause("HANG", "leave it out, and wait in the client; nothing waits in the server.", "H 5", "gap", r"\S", " ", "H(?::\\S+)? ")),
     _word("B|BREAK|V|VIEW", "BREAK or VIEW", "Leave it out: there is no debugger, and no view of memory.", "B  W 1"),
-    _word("M|MERGE", "MERGE", "Copy by a loop of $ORDER and SET, or by mglobal export and import.", "M ^A=^B"),
+    _later(1, _word("M|MERGE", "MERGE", "copy by a loop of $ORDER and SET, or by mglobal export and import.", "M ^A=^B")),
     _word("TS|TSTART|TC|TCOMMIT|TRO|TROLLBACK|TRE|TRESTART", "a transaction",
           "Lines run one at a time, so nothing comes between; a line that fails keeps what it did: check first, then SET.", "TSTART  W 1"),
     _word("Z[A-Z]*", "a Z command", "It is another system's own: mroutine loads and saves routines, mglobal shows globals.", "ZWRITE ^X"),
@@ -77,7 +77,7 @@ _COMMANDS = [
     Cause("a value without a command", "A line begins with a command: W 1+2 shows a value.", "1+2", "command", r"[\"(0-9.$^@%+'-]", r"^ *"),
     Cause("two expressions need a comma, or two commands one space", "", "W 1 2", "command", r"[^A-Za-z;]", r"\S ", back=1),
     Cause("no command has this name", "SET, KILL, NEW, IF, ELSE, FOR, QUIT, WRITE, DO, GOTO, XECUTE, LOCK and HALT are there, whole or by their first letter, "
-          "and HANG at language 1; two expressions need a comma between.", "FOO 1", "command", "[A-Z]+"),
+          "and HANG and MERGE at language 1; two expressions need a comma between.", "FOO 1", "command", "[A-Z]+"),
     Cause("no command begins here", "A command is a word, as SET or S; between two commands stands one space.", "W 1  ,2", "command", r"\S"),
 ]
 _WORDS = [
@@ -91,7 +91,7 @@ _WORDS = [
           "(?:I|IF|E|ELSE|F|FOR):"),
     Cause("an argument where none is taken", "Two spaces follow, if another command comes after it.", "E 5", "gap", r"\S", " "),
     Cause("one space stands before an argument, and not more", "Write one space: W 1.", "W  1", "argument", r" +[^ ;]"),
-    Cause("an argument is missing", "SET, WRITE, GOTO, XECUTE and HANG do nothing without one.", "W 1 W", "argument", rf" *(?:;|{END})"),
+    Cause("an argument is missing", "SET, WRITE, GOTO, XECUTE, MERGE and HANG do nothing without one.", "W 1 W", "argument", rf" *(?:;|{END})"),
     Cause("no space after the command's word", "One space stands between the word and its argument.", 'W"x"', "argument", r"\S"),
     Cause("no space after the command's word", "One space stands between the word and its argument; two follow a command without arguments.", "Q1", "gap",
           r"\S"),
@@ -125,14 +125,12 @@ _ARGUMENTS = [
     Cause("a space within an argument", "No space stands beside =.", "S A =1", "equals", r" +="),
     Cause("the index of FOR has subscripts", "It is a name alone: F I=1:1:3.", "F I(1)=1:1:3 W 1", "equals", r"\(", "", _FOR),
     Cause("the index of FOR is no name", "It is a local variable by its name: F I=1:1:3.", "F ^I=1:1:3 W 1", "name", r"\S", "", _FOR),
-    Cause("no = and no value", "SET and FOR want a variable, = and a value: S A=1.", "S A", "equals"),
+    Cause("no = and no value", "SET and FOR want a variable, = and a value: S A=1; MERGE a variable, = and a variable.", "S A", "equals"),
     Cause("LOCK of a naked reference", "Name the global: L +^X(2).", "L +^(2)", "lockable"),
     Cause("subscripts in a list of names", "KILL (A,B) and NEW (A,B) take names alone.", "K (A(1))", "close", r"\(", "",
           r"(?:K|KILL|N|NEW)(?::\S+)? (?:\S*,)?\("),
 ]
 _VALUES = [
-    Cause("a call of a function where none is carried out", "Subscripts after an indirection take none: set a variable first: S B=$$ADD^R(1) W @A@(B).",
-          "W @A@($$ADD^R(1))", "no call", r"\$\$"),
     _later(1, Cause("an extrinsic function", "DO the label, which leaves its result in a variable: S A=1 D ADD^R W SUM.", "S X=$$ADD^R(1)", "operand",
                     r"\$\$")),
     Cause("a structured system variable", "There is none: mglobal knows what a store file has.", 'W $D(^$GLOBAL("X"))', "", r"\$", r"\^"),
@@ -141,6 +139,7 @@ _VALUES = [
     _later(1, _dollar(r"(?:QL|QLENGTH|QS|QSUBSCRIPT)\(", "$QLENGTH or $QSUBSCRIPT", "keep subscripts in locals of their own.", "W $QL(X)")),
     _later(1, _dollar(r"(?:NA|NAME)\(", "$NAME", "build names by `_` and use them by @.", "S X=$NA(A(1))")),
     _later(1, _dollar(r"(?:Q|QUERY)\(", "$QUERY", "walk level by level by $ORDER; build names by `_` and use them by @.", "S X=$Q(^A)")),
+    _later(1, _dollar(r"(?:I|INCREMENT)\(", "$INCREMENT", "read, add and set: S X=$G(X)+1.", "S X=$I(^N)")),
     _dollar(r"(?:N|NEXT)\(", "$NEXT", 'Use $ORDER, which begins and ends with "".', "S X=$N(^A(-1))"),
     _later(1, _dollar(r"(?:FN|FNUMBER)\(", "$FNUMBER", "put the text together by $PIECE, $EXTRACT and $JUSTIFY.", 'W $FN(X,",")')),
     _dollar(r"(?:R|RANDOM)\(", "$RANDOM", "The server answers the same lines alike: the client sends random numbers.", "S X=$R(10)"),
@@ -151,8 +150,8 @@ _VALUES = [
     _later(1, _dollar(r"[XY](?![A-Z(])", "$X or $Y", "count what is written: S N=N+$L(A) W A.", "I $Y>60 W !")),
     _later(1, _dollar(r"(?:Q|QUIT)(?![A-Z(])", "$QUIT", "leave it out: QUIT takes no value.", "Q:$Q 1 Q")),
     _dollar(r"(?:ST|STACK|V|VIEW|INCREMENT|D|DEVICE|K|KEY|SY|SYSTEM|EC|ECODE|ES|ESTACK|ET|ETRAP|TL|TLEVEL|TR|TRESTART)(?![A-Z(])|"
-            r"(?:ST|STACK|V|VIEW|I|INCREMENT)\(", "a special variable or function that is not there",
-            "There is $TEST, and at language 1 $IO, $JOB, $PRINCIPAL, $QUIT, $STORAGE, $X and $Y; $INCREMENT(X) is S X=$G(X)+1.", "S X=$I(^N)"),
+            r"(?:ST|STACK|V|VIEW)\(", "a special variable or function that is not there",
+            "There is $TEST, and at language 1 $IO, $JOB, $PRINCIPAL, $QUIT, $STORAGE, $X and $Y.", "S X=$ST(1)"),
     _dollar("[A-Z]+", "a function that is not there", 'docs/LANGUAGE.md, "Functions", has all of them.', "W $FOO(1)"),
     _later(1, Cause("$JUSTIFY with three arguments", "round first: $J(X*100+.5\\1/100,8), for X from 0 on.", "W $J(X,8,2)", "close $JUSTIFY", ",")),
     Cause("more arguments than the function takes", 'docs/LANGUAGE.md, "Functions", has what each takes.', "W $L(1,2,3)", "close $", ","),

@@ -31,6 +31,7 @@ CODES = {
     "M16": Code("QUIT with a value that nothing wants", "Languages",
                 "Call it as a function, S X=$$F(1); in a FOR, a block or an XECUTE set a variable, and QUIT with it after that."),
     "M17": Code("function that ends without a value", "Languages", "Each way through it ends by a QUIT with a value."),
+    "M19": Code("MERGE of a node with one above or below it", "Languages", "Copy by way of another variable: M X=A(1) K A M A=X."),
     "M20": Code("actuals, but no formal list", "Languages", "The label needs its list: F(A,B), right after the name and without a space."),
     "M28": Code("exponent with a fraction", "Languages", "The exponent of ** is a whole number: X**(N\\1)."),
     "M58": Code("more actuals than formal parameters", "Languages", "Look at the list after the label."),

@@ -12,9 +12,6 @@ the same few kinds of steps:
     ["inner", NAME]            the same, one bracket deeper
     ["mark", NAME, STEP]       the step, with its place kept under a name
 
-The rules of values and of variables are there twice: as they are, and with `whole` before their names for what is evaluated as a whole, as
-the subscripts after an indirection are. From language 1 on the former have calls of functions, and the latter have none.
-
 A text is in the grammar if the rule `line` reaches its end. The place that was reached at most is that of the fault: what comes before
 it begins some line of the grammar, and what follows does not go on with it."""
 from __future__ import annotations
@@ -35,21 +32,20 @@ OF_VALUES = {"A ASCII": (1, 2), "C CHAR": (1, 255), "E EXTRACT": (1, 3), "F FIND
 OF_VALUES_SINCE = {1: {"FN FNUMBER": (2, 3), "J JUSTIFY": (2, 3), "QL QLENGTH": (1, 1), "QS QSUBSCRIPT": (2, 2), "RE REVERSE": (1, 1)}}
 # The special variables, and those that a later language has.
 SPECIALS, SPECIALS_SINCE = ["T TEST"], {1: ["I IO", "J JOB", "P PRINCIPAL", "Q QUIT", "S STORAGE", "X", "Y"]}
-# The language that has HANG, whose letter is that of HALT too; the one that has formal lists, actuals of DO, and values of QUIT; the one that has
-# routines of other accounts; and the one that has functions of one's own.
+# The language that has HANG, whose letter is that of HALT too; the one that has MERGE; the one that has formal lists, actuals of DO, and values of QUIT;
+# the one that has routines of other accounts; and the one that has functions of one's own.
 HANG_SINCE = 1
+MERGE_SINCE = 1
 PARAMETERS_SINCE = 1
 LIBRARIES_SINCE = 1
 FUNCTIONS_SINCE = 1
-# What stands before the name of a rule of values that are evaluated as a whole.
-WHOLE = "whole "
 # The functions that SET may assign to: how many values at least and at most after the variable.
 TARGETS = {"P PIECE": (1, 2)}
 TARGETS_SINCE = {1: {"P PIECE": (1, 3), "E EXTRACT": (0, 2)}}
 # A line that a language takes, and none before it.
 NEW_LINES = {1: "W $RE(1)"}
 # The functions of a variable: how many values at most after it; and those that a later language has.
-OF_VARIABLE, OF_VARIABLE_SINCE = {"D DATA": 0, "G GET": 1, "O ORDER": 1}, {1: {"NA NAME": 1, "Q QUERY": 1}}
+OF_VARIABLE, OF_VARIABLE_SINCE = {"D DATA": 0, "G GET": 1, "O ORDER": 1}, {1: {"I INCREMENT": 1, "NA NAME": 1, "Q QUERY": 1}}
 
 
 def text(pattern: str, wanted: str = "") -> Step:
@@ -123,9 +119,9 @@ def function(words: str, *inside: Step) -> Step:
     return all_of(text(rf"\${either(words)}\(", "operand"), *inside, text(r"\)", f"close ${whole}"))
 
 
-def values(least: int, most: int, kind: str) -> list[Step]:
-    """This many expressions of a kind."""
-    value = inner(f"{kind}expression")
+def values(least: int, most: int) -> list[Step]:
+    """This many expressions."""
+    value = inner("expression")
     needed = [value, *[all_of(text(",", "comma"), value)] * (least - 1)]
     further: Step | None = None
     if most > 10:
@@ -156,10 +152,10 @@ def entry(language: int) -> Step:
     return mark("entry", any_of(all_of(text(r"\^"), routine), all_of(text(NAME, "entry"), perhaps(all_of(text(r"\^", "more"), routine)))))
 
 
-def further(language: int, kind: str) -> Step:
-    """An operator and its operand of a kind, or a pattern."""
+def further(language: int) -> Step:
+    """An operator and its operand, or a pattern."""
     operator = text(OPERATOR if language < 1 else rf"\*\*|{OPERATOR}", "operator")
-    return any_of(all_of(operator, rule(f"{kind}operand")), all_of(text(r"'?\?"), rule(f"{kind}pattern")))
+    return any_of(all_of(operator, rule("operand")), all_of(text(r"'?\?"), rule("pattern")))
 
 
 def of_values(language: int) -> dict[str, tuple[int, int]]:
@@ -189,6 +185,13 @@ def halts(language: int) -> list[Step]:
         return [command("H HALT", None, True)]
     seconds = listed(rule("expression"))
     return [command("H", seconds, True), command("HALT", None, True), command("HANG", seconds, False)]
+
+
+def merges(language: int) -> list[Step]:
+    """MERGE, if the language has it."""
+    copied = all_of(rule("variable"), text("=", "equals"), rule("variable"))
+    given = all_of(OPERAND, text(f"(?=[ ,;]|{END})"))
+    return [command("M MERGE", listed(any_of(copied, given)), False)] if language >= MERGE_SINCE else []
 
 
 def entering(language: int) -> list[Step]:
@@ -229,43 +232,40 @@ def atom(language: int) -> Step:
     return all_of(text(COUNT, "pattern"), any_of(plain, bracketed(inner("atoms"))) if language >= 1 else plain)
 
 
-def called(language: int, kind: str) -> list[Step]:
-    """A call of a function, or a fault that has a name of its own where none is carried out."""
-    if kind == WHOLE:
-        return [all_of(text(r"(?=\$\$)"), text("(?!)", "no call"))]
+def called(language: int) -> list[Step]:
+    """A call of a function, if the language has any."""
     return [all_of(text(r"\$\$", "operand"), entry(language), HANDED)] if language >= FUNCTIONS_SINCE else []
 
 
-def variables(kind: str) -> dict[str, Step]:
-    """The rules of variables whose parts are of a kind."""
-    value, subscripts = inner(f"{kind}expression"), rule(f"{kind}subscripts")
-    return {f"{kind}variable": any_of(
+def variables() -> dict[str, Step]:
+    """The rules of variables."""
+    value, subscripts = inner("expression"), rule("subscripts")
+    return {"variable": any_of(
                 all_of(text(NAME, "variable"), subscripts),
                 all_of(text(r"\^(?!\()", "variable"), perhaps(all_of(text(r"\|"), value, text(r"\|", "bar"))), text(NAME, "name"), subscripts),
                 all_of(text(r"\^(?=\()"), subscripts),
-                all_of(text("@"), inner(f"{kind}primary"), perhaps(all_of(text(r"@(?=\()"), rule(f"{WHOLE}subscripts"))))),
-            f"{kind}subscripts": perhaps(all_of(text(r"\("), listed(value), text(r"\)", "close")))}
+                all_of(text("@"), inner("primary"), perhaps(all_of(text(r"@(?=\()"), subscripts)))),
+            "subscripts": perhaps(all_of(text(r"\("), listed(value), text(r"\)", "close")))}
 
 
-def of_kind(language: int, kind: str) -> dict[str, Step]:
-    """The rules of values of a kind."""
-    value, variable = inner(f"{kind}expression"), rule(f"{kind}variable")
-    return {**variables(kind),
-            f"{kind}expression": all_of(rule(f"{kind}operand"), ["many", further(language, kind)]),
-            f"{kind}pattern": any_of(all_of(text("@"), inner(f"{kind}primary")), rule("atoms")) if language else rule("atoms"),
-            f"{kind}operand": all_of(text(r"[+\-']*"), rule(f"{kind}primary")),
-            f"{kind}primary": any_of(
+def expressions(language: int) -> dict[str, Step]:
+    """The rules of values."""
+    value, variable = inner("expression"), rule("variable")
+    return {"expression": all_of(rule("operand"), ["many", further(language)]),
+            "pattern": any_of(all_of(text("@"), inner("primary")), rule("atoms")) if language else rule("atoms"),
+            "operand": all_of(text(r"[+\-']*"), rule("primary")),
+            "primary": any_of(
                 text(r"(?:[0-9]+(?:\.[0-9]+)?|\.[0-9]+)(?:E[+-]?[0-9]+)?", "operand"),
                 text('"(?:[^"]|"")*"(?!")', "operand"),
                 variable,
                 all_of(text(r"\("), value, text(r"\)", "close")),
-                all_of(text(r"(?=\$)"), rule(f"{kind}dollar"))),
-            f"{kind}dollar": any_of(
+                all_of(text(r"(?=\$)"), rule("dollar"))),
+            "dollar": any_of(
                 *[text(rf"\${either(words)}(?![A-Za-z(])", "operand") for words in specials(language)],
-                *[function(words, *values(*counts, kind)) for words, counts in of_values(language).items()],
-                *[function(words, inner(f"{kind}variable"), *([perhaps(all_of(text(",", "more"), value))] if most else []))
+                *[function(words, *values(*counts)) for words, counts in of_values(language).items()],
+                *[function(words, inner("variable"), *([perhaps(all_of(text(",", "more"), value))] if most else []))
                   for words, most in of_variable(language).items()],
-                function("S SELECT", listed(all_of(value, text(":", "colon"), value))), *called(language, kind))}
+                function("S SELECT", listed(all_of(value, text(":", "colon"), value))), *called(language))}
 
 
 def rules(language: int) -> dict[str, Step]:
@@ -273,9 +273,9 @@ def rules(language: int) -> dict[str, Step]:
     column = all_of(text(r"\?"), rule("expression"))
     formats = [all_of(text("[!#]+"), perhaps(column)), column, all_of(text(r"\*"), rule("expression"))] if language >= 1 else [text("!+")]
     return {**SHARED, **(actual() if language >= PARAMETERS_SINCE else {}),
-            "command": any_of(*COMMANDS, *entering(language), *halts(language)), "target": targets(language),
+            "command": any_of(*COMMANDS, *merges(language), *entering(language), *halts(language)), "target": targets(language),
             "written": any_of(*formats, rule("expression")), "atom": atom(language),
-            **of_kind(language, ""), **of_kind(language, WHOLE)}
+            **variables(), **expressions(language)}
 
 
 # Actuals, or no list of them.

@@ -19,6 +19,7 @@ COMMANDS = {
     "GOTO": "GOTO ADD^R             G: goes on at a line of a routine",
     "XECUTE": "XECUTE \"S X=1\"         X: runs a text as a line",
     "LOCK": "LOCK +^A(1):0          L: takes names that other terminals cannot take then; LOCK -^A(1); LOCK gives all back",
+    "MERGE": "MERGE ^A=^B            M: copies a node with all below it to another one; of language 1",
     "HALT": "HALT                   H: ends the session: its locals are gone and its locks given back",
     "HANG": "HANG 5                 H: waits for nothing here; of language 1",
 }
@@ -30,6 +31,7 @@ FUNCTIONS = {
     "$FIND": "$F(text,part[,from])   the place after a part, or 0",
     "$FNUMBER": "$FN(number,format[,places])  a number with commas, signs, brackets and places; of language 1",
     "$GET": "$G(variable[,default]) the text, or the default if there is none",
+    "$INCREMENT": "$I(variable[,number])  adds the number, or 1, to the variable, and gives what it then has; of language 1",
     "$JUSTIFY": "$J(text,width)         the text after spaces; of language 1 $J(number,width,places) too",
     "$LENGTH": "$L(text[,delimiter])   how many characters, or pieces",
     "$NAME": "$NA(variable[,count]) its name as a text, with as many subscripts as are said; of language 1",

@@ -30,7 +30,6 @@ TERMINALS = {0: ALICE, 1: CAROL}
 FORMALS = "brackets after a label that are no formal list"
 NEEDS = ", which needs language 1 of the account's settings"
 NO_ACCOUNT = "an account that is no string between two |"
-NO_CALL = "a call of a function where none is carried out"
 each_language = pytest.mark.parametrize("number", LANGUAGES)
 
 
@@ -114,10 +113,10 @@ def test_new_line_of_a_language(number: int) -> None:
     ("W 1 2", "W 1^ 2", "two expressions need a comma, or two commands one space"), ("D F(1)", "D F^(1)", f"parameters{NEEDS}"),
     ("W $$F(1)", "W ^$$F(1)", f"an extrinsic function{NEEDS}"), ("S A=B($$F)", "S A=B(^$$F)", f"an extrinsic function{NEEDS}"),
     ("S B($$F)=A", "S B(^$$F)=A", f"an extrinsic function{NEEDS}"), ("W @$$F", "W @^$$F", f"an extrinsic function{NEEDS}"),
-    ("S @B@($$F)=A", "S @B@(^$$F)=A", NO_CALL), ("F I=@B@($$F):1:2 W I", "F I=@B@(^$$F):1:2 W I", NO_CALL), ("K $$F", "K ^$$F", "a variable is wanted"),
-    ("D $$F", "D ^$$F", "no label or routine"),
+    ("S @B@($$F)=A", "S @B@(^$$F)=A", f"an extrinsic function{NEEDS}"), ("F I=@B@($$F):1:2 W I", "F I=@B@(^$$F):1:2 W I", f"an extrinsic function{NEEDS}"),
+    ("K $$F", "K ^$$F", "a variable is wanted"), ("D $$F", "D ^$$F", "no label or routine"),
     ('write "hello', 'write ^"hello', "a string without its closing quote"),
-    ("foo", "^foo", "no command has this name"), ("W $HOROLOG", "W ^$HOROLOG", "$HOROLOG"), ("MERGE A=B", "^MERGE A=B", "MERGE"),
+    ("foo", "^foo", "no command has this name"), ("W $HOROLOG", "W ^$HOROLOG", "$HOROLOG"), ("MERGE A=B", "^MERGE A=B", f"MERGE{NEEDS}"),
     ("ZWRITE", "^ZWRITE", "a Z command"), ("S X=1 R X", "S X=1 ^R X", "READ"), ("D LAB^", "D LAB^^", "a name is missing"),
     ("K ^A(1", "K ^A(1^", "a ) is missing"), ('Q:X="" W X', 'Q:X=""^ W X', "two spaces follow a command without arguments"),
     ('F I=1:1:3 Q:I=2 W "x"', 'F I=1:1:3 Q:I=2^ W "x"', "two spaces follow a command without arguments"), ("Q X", "Q ^X", f"QUIT with a value{NEEDS}"),
@@ -180,7 +179,7 @@ def test_language_of_an_account(server: Server) -> None:
     ("W @$$F", [f"an extrinsic function{NEEDS}", None]), ("I A,@$$F", [f"an extrinsic function{NEEDS}", None]),
     ("F A=1:1:$$F", [f"an extrinsic function{NEEDS}", None]), ("L -(A,B($$F)):$$G", [f"an extrinsic function{NEEDS}", None]),
     ("S $P(A($$F),$$F)=1", [f"an extrinsic function{NEEDS}", None]),
-    ("W @A@($$F)", [NO_CALL, NO_CALL]), ("W @$$F@(1)", [f"an extrinsic function{NEEDS}", None]),
+    ("W @A@($$F)", [f"an extrinsic function{NEEDS}", None]), ("W @$$F@(1)", [f"an extrinsic function{NEEDS}", None]),
     ("W $$", [f"an extrinsic function{NEEDS}", "no label or routine"]),
     ("W $$F(1", [f"an extrinsic function{NEEDS}", "a ) is missing"]), ("Q W 1", ["two spaces follow a command without arguments"] * 2),
     ("R X", ["READ", "READ"]), ("W $re(", [f"$REVERSE{NEEDS}", "an operand is missing"]),
@@ -218,7 +217,7 @@ def test_language_of_a_check(server: Server, command: Command, tmp_path: Path) -
     ("A(B,C) S X=B Q", None, None), ("A()", None, None), ("A(B);x", None, None), ("A(%)\t. Q", None, None), ("A(B,B) Q", 2, FORMALS), ("A(B,) Q", 2, FORMALS),
     ("A(1) Q", 2, FORMALS), ("A(" + "B" * 32 + ") Q", 2, FORMALS), ("A(B", 2, FORMALS), ("A(.B) Q", 2, FORMALS),
     ("A(B)Q", 5, "what begins the line is no label"),
-    ("A(B) W $$A(1)", None, None), ("A(B) K @A@($$A)", 12, NO_CALL),
+    ("A(B) W $$A(1)", None, None), ("A(B) K @A@($$A)", None, None),
     ("A (B) Q", 3, "a value without a command"), ("(B) Q", 1, "what begins the line is no label"),
 ])
 def test_formal_lists(server: Server, line: str, column: int | None, cause: str | None) -> None:

@@ -85,6 +85,8 @@ class Draw:
             lambda: joined(['$QS("^|""E""|A("_', self.expression(depth), self.drawn.choice(['_")",0)', '_",2)",1)', '_")",-1)', '_")",I)'])]),
             lambda: joined([self.drawn.choice(["$NA(A(", "$NAME(^A(1,", "$na(^("]), self.expression(depth), self.drawn.choice(["))", "),0)", "),1)", "),I)"])]),
             lambda: joined([self.drawn.choice(["$Q(A(", "$QUERY(^A(1,", "$q(^("]), self.expression(depth), self.drawn.choice(["))", "),1)", "),-1)", "),I)"])]),
+            lambda: joined([self.drawn.choice(["$I(A(", "$INCREMENT(^A(1,", "$i(^("]), self.expression(depth),
+                            self.drawn.choice(["))", "),2)", "),-1)", "),I)"])]),
             lambda: joined([self.drawn.choice(["$RE(", "$REVERSE(", "$re("]), self.expression(depth), ")"]),
         ])()
 

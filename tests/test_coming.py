@@ -1,6 +1,6 @@
 # SPDX-License-Identifier: Apache-2.0
-"""What is coming and the program does not have yet: the second interpreter (tests/second_interpreter) beside GT.M. So it is for functions where language 1
-calls none yet, names of nodes, MERGE, and lines of routines. Lines with parameters are played here too, beside those with functions.
+"""What is coming and the program does not have yet: the second interpreter (tests/second_interpreter) beside GT.M. So it is for $TEXT, and for entries with
+labels of digits, offsets and indirection. Lines with parameters, functions, names and MERGE, which came before, are played here too.
 
 What GT.M answers otherwise has its reason in tools/gtm_differences.toml, in rows with `coming`."""
 from __future__ import annotations
@@ -496,7 +496,7 @@ def test_halt_within_a_function_ends_the_session() -> None:
     assert interpreted(["S B=1", "W 2,$$HF^F(),3", "W $D(A),$D(B)"]) == [Reply(""), Reply("2"), Reply("00")]
 
 
-@pytest.mark.parametrize("line", ["W A,@A@($$E)", "S @A@($$E)=1", "K @A@($$E)", "F I=1:@A@($$E) W I", 'X "W @A@($$E)"'])
+@pytest.mark.parametrize("line", ["W A,$T(V^F)", "S A=$TEXT(+1)", "D 1^P", "D P+1^P", "G P+1", "D @A^P", 'X "W $T(+0)"'])
 def test_no_such_form_before_it_comes(line: str) -> None:
     """By language 1 these are no lines."""
     world = World(content(ONE_ACCOUNT).decode("ascii"), max(OF_LANGUAGE))

@@ -21,7 +21,7 @@ CRATE, MSERVE = (os.path.join(TOP, "crates", name) for name in ("transcripts", "
 OF_THE_PROGRAM = (*SERVED, "only", "reopened", "files", "steps")
 # The kinds of settings that lines of the crate are served by.
 OF_THE_CRATE = ("lines", "terminals")
-CODES = ("M1 M2 M4 M6 M7 M9 M10 M11 M13 M15 M16 M17 M20 M28 M58 M90 M94 "
+CODES = ("M1 M2 M4 M6 M7 M9 M10 M11 M13 M15 M16 M17 M19 M20 M28 M58 M90 M94 "
          "ZLONG ZSYNTAX ZOVER ZARG ZSUB ZGRANT ZLOCKED ZSTEPS ZDEPTH ZLEVEL ZCHAR ZLINE ZTERM").split()
 
 

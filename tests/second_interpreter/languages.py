@@ -8,12 +8,10 @@ SINCE = {
     "$FNUMBER": 1, "$JUSTIFY of three": 1, "$REVERSE": 1, "pattern alternation": 1,
     "pattern indirection": 1, "pages of WRITE": 1, "$X and $Y": 1, "formats of WRITE": 1,
     "codes of WRITE": 1, "SET $EXTRACT": 1, "SET $PIECE of several": 1, "HANG": 1, "special variables of terminals": 1, "**": 1,
-    "$INCREMENT": COMING, "$NAME": 1, "$QLENGTH": 1, "$QSUBSCRIPT": 1, "$QUERY": 1, "MERGE": COMING,
+    "$INCREMENT": 1, "$NAME": 1, "$QLENGTH": 1, "$QSUBSCRIPT": 1, "$QUERY": 1, "MERGE": 1,
     "$TEXT": COMING, "indirection of entries": COMING, "labels of digits": COMING, "offsets of entries": COMING,
     "names of globals": COMING,
-    "libraries": 1, "parameters": 1, "special variables": 1, "values of QUIT": 1,
-    # "functions" is of calls that can be carried out a step at a time, and the other of those in the subscripts after an indirection.
-    "functions": 1, "functions anywhere": COMING,
+    "functions": 1, "libraries": 1, "parameters": 1, "special variables": 1, "values of QUIT": 1,
 }
 
 

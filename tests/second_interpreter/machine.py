@@ -208,16 +208,18 @@ class Machine(Places):
         self.put(place, texts.set_pieces(old, parts[0], max(first, 1), last, new) if kind == "piece" else texts.set_extract(old, max(first, 1), last, new))
 
     def do_merge(self, _: str, target: tuple, source: tuple) -> None:
-        """Copies the texts at and below a node, one after another in their order, a step each. M19 if one node is above the other."""
+        """Copies the texts at and below a node, one after another in their order, a step each. M19 if one node is above the other: then the target is
+        not referred to."""
         evaluated, other = self.evaluated(target), self.evaluated(source)
         origin = self.finished(other, "read")
-        place = self.finished(evaluated, "write")
+        last, place = self.session.naked, self.finished(evaluated, "write")
         front, depth = place[2], len(origin[2])
         if self.is_same_variable(origin, place):
             shared = min(depth, len(front))
             if origin[2] == front:
                 return
             if origin[2][:shared] == front[:shared]:
+                self.session.naked = last
                 raise Stop("M19")
         tree = self.tree_of(origin)
         node = origin[2] if origin[2] in tree.texts else tree.following(origin[2], forward=True)

@@ -96,10 +96,8 @@ def fault_at(text: str, language: int) -> int:
 
 @cache
 def reference(text: str, language: int) -> Tree:
-    """A variable, whole and alone."""
+    """A variable, whole and alone. A function in it is refused once it is reached."""
     reader = Reader(text, language)
-    # a function in the text of a name is refused once it is reached
-    reader.may_call = True
     return reader.whole(reader.reference())
 
 
@@ -123,8 +121,6 @@ class Reader:
     def __init__(self, text: str, language: int) -> None:
         self.text, self.language = text, language
         self.at, self.depth, self.begun = 0, 0, 0
-        # Whether a function may be called wherever a value stands. If not, it is called in steps alone.
-        self.may_call, self.in_steps = self.has("functions anywhere"), True
 
     def has(self, form: str) -> bool:
         """Whether the language has a form."""
@@ -165,13 +161,6 @@ class Reader:
             self.refuse()
         tree = read()
         self.depth -= 1
-        return tree
-
-    def at_once(self, read: Callable[[], Tree]) -> Tree:
-        """What is evaluated as a whole, not in steps."""
-        kept, self.in_steps = self.in_steps, False
-        tree = read()
-        self.in_steps = kept
         return tree
 
     def listed(self, read: Callable[[], Tree]) -> list[Tree]:
@@ -433,7 +422,7 @@ class Reader:
 
     def dollar(self) -> Tree:
         self.at += 1
-        if self.has("functions") and (self.in_steps or self.may_call) and self.takes("$"):
+        if self.has("functions") and self.takes("$"):
             *meant, actuals = self.entry_with_actuals(may_count=False)
             return "function", (*meant, actuals or [])
         word = self.found(re.compile("[A-Za-z]+")).upper()
@@ -511,7 +500,7 @@ class Reader:
         if self.takes("@"):
             operand = self.inside(self.primary)
             more = self.text.startswith("@(", self.at) and self.takes("@")
-            return "indirect", operand, self.at_once(self.subscripts) if more else None
+            return "indirect", operand, self.subscripts() if more else None
         if not self.takes("^"):
             return "local", self.name(), self.subscripts()
         if self.next() == "(":

@@ -42,7 +42,7 @@ def main() -> int:
             with open(f"{root}/crates/{crate}/{path}", "w", encoding="utf-8") as file:
                 file.write(edited)
             command = ["python3", f"{root}/wip/bare_contracts.py", root, crate, "--only", function]
-            said = subprocess.run(command, capture_output=True, text=True).stdout
+            said = subprocess.run(command, stdout=subprocess.PIPE, stderr=subprocess.STDOUT, text=True, check=False).stdout
         finally:
             with open(f"{root}/crates/{crate}/{path}", "w", encoding="utf-8") as file:
                 file.write(source)

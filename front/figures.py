@@ -4,7 +4,7 @@
 what it printed up to there is kept. On a quiet machine these are the figures of docs/PERFORMANCE.md.
 
 With `--to FILE` the times of take-overs, moves, a lost database and replies are a table there too. `--failures` makes these alone, the shortest first, and
-within ten minutes.
+within thirteen minutes; with `--write` their table is that of docs/PERFORMANCE.md from then on, if all came to their end.
 
 Status 1 if a measurement failed or was cut off; the last line says how many did."""
 from __future__ import annotations
@@ -32,12 +32,24 @@ from running import PROGRAM, require_program  # noqa: E402
 PYTHON = "/usr/bin/python3"
 APART = Path(f"/dev/shm/mfront-figures-{os.getpid()}")
 TEST = [PYTHON, "-m", "pytest", "-q", "-s", "-c", str(HERE / "pytest.ini"), "--rootdir", str(HERE.parent), "-p", "no:cacheprovider"]
-# Of a line that is for the table: what was done, and how long it took.
-FIGURE = re.compile(r"\.*(without service after a kill|\d+ leaders killed[^:;]*|\d+ islands moved|a machine with \d+ islands killed and started"
-                    r"|served again|nobody served|\d+ islands of one gate|\d+ lines of a million steps beside \d+ lines|\w+ journal, store in \w+)"
-                    r"[^:]*?(?:;[^:]*)?:? ?(.*?)(?:; processor time.*)?$")
+# Lines that are for the table, after the name of their measurement: how they read, with how `long` something took, and what that is of.
+ROWS = tuple((re.compile(pattern), what) for pattern, what in (
+    (r"without service after a kill: (?P<long>.*)", "a leader is killed, its standby promoted, until a line is answered"),
+    (r"(\d+) leaders killed, .*: (?P<long>median .*)", r"\1 leaders are killed at any moment, the standby of each promoted, until a line is answered"),
+    (r"nobody served for (?P<long>.*)", "a leader is stopped, its standby promoted by `--wait`, until a line is answered"),
+    (r"(\d+) islands of one gate: all answered again (?P<long>[\d.]+ s)", r"a gate of \1 islands is restarted, until all are answered"),
+    (r"served again (?P<long>[\d.]+ s) after the database was there", "PostgreSQL is there again, until a line is answered"),
+    (r"served again (?P<long>[\d.]+ s) after the database, by attempt", "the same, after seven attempts in vain"),
+    (r"served again (?P<long>[\d.]+ s) after the cut", "its connection is cut, and its lock kept by a dead one, until a line is answered"),
+    (r"\d+ lines of a million steps beside \d+ lines: (?P<long>.*)", "an island runs lines of a million steps; another's reply"),
+    (r"(\w+ machines[^:]*): \d+ islands moved: (?P<long>.*)", r"\1: an island is moved"),
+    (r"(\w+ machines[^:]*): a machine with (\d+) islands killed and started: its users are answered (?P<long>.*)",
+     r"\1: a machine is killed and started again, its users are answered"),
+    (r"(\w+ journal, store in \w+): (?P<long>.*); processor time", r"\1"),
+))
+PAGE, BEGIN, END = HERE.parent / "docs" / "PERFORMANCE.md", "<!-- figures.py -->\n", "<!-- end -->\n"
 # Seconds for all, and for those of failures alone.
-ALL, ALL_FAILURES = 900, 600
+ALL, ALL_FAILURES = 900, 780
 # What is without service, and for how long, in this order.
 FAILURES = ("time without service", "a gate that is restarted", "a leader that is stopped", "a database that is lost", "leaders killed",
             "a heavy account beside another", "few machines with many users")
@@ -73,7 +85,7 @@ def measurements(short: bool) -> list[Measurement]:
         Measurement("a gate that is restarted", (*TEST, *apart, str(HERE / "tests" / "test_fork_server.py"), "-k", "little", "--count", restarted), 60),
         Measurement("leaders killed", (*TEST, *apart, str(HERE / "tests" / "test_standby.py"), "-k", "leaders_that_are_killed", "--count", count), 300),
         Measurement("a database that is lost",
-                    (*TEST, *apart, str(HERE / "tests" / "test_table.py"), "-k", "goes_on_soon or that_is_away and not minute"), 120),
+                    (*TEST, *apart, str(HERE / "tests" / "test_table.py"), "-k", "goes_on_soon or that_are_cut or that_is_away and not minute"), 120),
         Measurement("a heavy account beside another", (*TEST, str(HERE / "tests" / "test_alone.py"), "-k", "heavy"), 90),
         Measurement("journals, one user", (PYTHON, rates, "--users", "1", "--seconds", one, "--replayed", "0", "--killed", "0", "--stores", "memory"), 60),
         Measurement("journals over a store in a file, 64 users",
@@ -116,27 +128,58 @@ def run(one: Measurement, left: float, kept: list[str]) -> bool:
 
 
 def table(made: list[tuple[Measurement, list[str], float]]) -> str:
-    """The rows of the figures that are for a table, each with the load at the end of its measurement."""
-    rows = [f"| {found[1].strip()} | {found[2].strip()} | {load:.1f} |" for one, kept, load in made for line in kept for found in [FIGURE.match(line)] if found]
-    return "\n".join(["| What | How long | Load |", "|---|---|---|", *rows, ""])
+    """The rows of the figures that are for a table, each with the load at the end of its measurement. What was measured several times has one."""
+    rows: dict[str, tuple[list[str], float]] = {}
+    for one, kept, load in made:
+        for what, long in (figure for line in kept for figure in figures_of(f"{one.name}: {line}")):
+            rows[what] = [*rows.get(what, ([],))[0], long], load
+    head = [f"| What | How long ({datetime.now(UTC):%Y-%m-%d %H:%M} UTC, `{revision()}`) | Load |", "|---|---|---|"]
+    return "\n".join([*head, *(f"| {what} | {'; '.join(long)} | {load:.1f} |" for what, (long, load) in rows.items()), ""])
+
+
+def figures_of(line: str) -> list[tuple[str, str]]:
+    """What a line that was printed says: what took how long, if it says that."""
+    return [(found.expand(what), found["long"].strip()) for pattern, what in ROWS for found in [pattern.search(line)] if found]
+
+
+def write_page(text: str) -> None:
+    """Puts a table between its marks."""
+    before, begin, rest = PAGE.read_text(encoding="utf-8").partition(BEGIN)
+    _, end, after = rest.partition(END)
+    if not end:
+        sys.exit("figures: docs/PERFORMANCE.md has no place for the table")
+    PAGE.write_text(f"{before}{begin}{text}{end}{after}", encoding="utf-8")
 
 
 def machine() -> str:
     """What the figures are of."""
     model = next((line.partition(":")[2].strip() for line in Path("/proc/cpuinfo").read_text().splitlines() if line.startswith("model name")), "unknown")
-    head = subprocess.run(["git", "-C", str(HERE.parent), "rev-parse", "--short", "HEAD"], capture_output=True, text=True).stdout.strip()
-    return (f"{datetime.now(UTC):%Y-%m-%d %H:%M} UTC, revision {head}, {PROGRAM}; {model}, {os.cpu_count()} processors, Linux {platform.release()}, "
+    return (f"{datetime.now(UTC):%Y-%m-%d %H:%M} UTC, revision {revision()}, {PROGRAM}; {model}, {os.cpu_count()} processors, Linux {platform.release()}, "
             f"Python {platform.python_version()}, load {os.getloadavg()[0]:.1f}")
+
+
+def revision() -> str:
+    """The revision of these sources."""
+    return subprocess.run(["git", "-C", str(HERE.parent), "rev-parse", "--short", "HEAD"], capture_output=True, text=True).stdout.strip()
+
+
+def asked_for() -> argparse.Namespace:
+    """The words of the command."""
+    words = argparse.ArgumentParser(description="Makes all measurements of the journal and of many machines, within fifteen minutes.")
+    words.add_argument("--short", action="store_true", help="small ones, which try that each works: no figures")
+    words.add_argument("--to", type=Path, metavar="FILE", help="where the table is written")
+    words.add_argument("--write", action="store_true", help="put the table of --failures into docs/PERFORMANCE.md, if all came to their end")
+    words.add_argument("--only", metavar="WORD", help="only those whose name has this word")
+    words.add_argument("--failures", action="store_true", help="only what is without service, and for how long: promotion, take-over, a database that is lost")
+    options = words.parse_args()
+    if options.write and (not options.failures or options.short or options.only):
+        words.error("--write is for all that --failures makes")
+    return options
 
 
 def main() -> int:
     """The status of the command."""
-    words = argparse.ArgumentParser(description="Makes all measurements of the journal and of many machines, within fifteen minutes.")
-    words.add_argument("--short", action="store_true", help="small ones, which try that each works: no figures")
-    words.add_argument("--to", type=Path, metavar="FILE", help="where the table is written")
-    words.add_argument("--only", metavar="WORD", help="only those whose name has this word")
-    words.add_argument("--failures", action="store_true", help="only what is without service, and for how long: promotion, take-over, a database that is lost")
-    options = words.parse_args()
+    options = asked_for()
     require_program()
     print(machine(), flush=True)
     end, failed = time.monotonic() + (ALL_FAILURES if options.failures else ALL), 0
@@ -156,6 +199,8 @@ def main() -> int:
         shutil.rmtree(APART, ignore_errors=True)
     if options.to is not None:
         options.to.write_text(f"{machine()}\n\n{table(made)}", encoding="utf-8")
+    if options.write and not failed:
+        write_page(table(made))
     print(f"{len(chosen) - failed} of {len(chosen)} measurements came to their end")
     return 1 if failed else 0
 

@@ -46,7 +46,7 @@ async def test_a_way_that_stays_open_while_its_database_is_gone(start, tmp_path:
                 record = await ben.next()
             assert record["unknown"] and "its reply is held back" in record["why"]
             await asyncio.to_thread(cluster.start)
-            await served_again(ada, "S ^Z=1")
+            await served_again(ada, "S ^Z=1", "the database was there")
             assert await ada.told("W ^X,^Y,^Z") == "111"
         assert "no answer within" in front.told()
         await stopped(front)

@@ -174,12 +174,12 @@ def log_key(journal: JournalSettings) -> int:
     return key_of(journal.name) % (1 << 32)
 
 
-async def served_again(person: Person, line: str) -> None:
-    """Sends a line until it is run, which takes little time once the database is there."""
+async def served_again(person: Person, line: str, after: str) -> None:
+    """Sends a line until it is run, which takes little time after something."""
     began = time.monotonic()
     while "refused" in await person.line(line):
         await asyncio.sleep(0.1)
-    print(f"served again {time.monotonic() - began:.1f} s after the database was gone")
+    print(f"served again {time.monotonic() - began:.1f} s after {after}")
     assert time.monotonic() - began < BACK
 
 
@@ -197,7 +197,7 @@ async def test_a_database_that_is_away(start, tmp_path: Path) -> None:
                 assert (await ada.line("S ^X=2"))["refused"] == "journal"
                 await asyncio.sleep(0.3)
             await asyncio.to_thread(cluster.start)
-            await served_again(ada, "S ^Y=1")
+            await served_again(ada, "S ^Y=1", "the database was there")
             await work
             assert await ada.told("W ^X,^Y") == "11"
             snapshot = await asyncio.to_thread(backup, front)
@@ -334,7 +334,7 @@ async def test_connections_that_are_cut(start, tmp_path: Path) -> None:
                 assert await ada.told(f"S ^X({number})=1 W 1") == "1"
                 wire.cut()
                 await ada.line("S ^Y=1")
-                await served_again(ada, "S ^Y=1")
+                await served_again(ada, "S ^Y=1", "the cut")
             assert await ada.told("W ^X(2),^Y") == "11"
         assert "another front" not in front.told()
         await stopped(front)

@@ -6,6 +6,8 @@ import json
 import os
 import re
 import shutil
+import signal
+import socket
 import stat
 import subprocess
 from collections.abc import Callable
@@ -46,6 +48,21 @@ def test_help_of_each_command(command: Run, words: list[str]) -> None:
     assert done.returncode == 0 and "Status: 0 all went well" in done.stdout.replace("\n", " ") and done.stderr == ""
     assert all(word in manual for word in words)
     assert all(option in manual or option == "--help" for option in re.findall(r"--\w+", done.stdout))
+
+
+@pytest.mark.parametrize("name", ["mfront", "mgate"])
+@pytest.mark.parametrize("abstract", [False, True])
+def test_a_reload_ends_nothing_once_systemd_may_send_it(tmp_path: Path, name: str, abstract: bool) -> None:
+    """A unit of `Type=notify` is reloaded no sooner than it says so, which is before it has loaded what it needs."""
+    place = f"@mfront-test-{os.getpid()}-{name}" if abstract else str(tmp_path / "notify")
+    with socket.socket(socket.AF_UNIX, socket.SOCK_DGRAM) as manager:
+        manager.bind(f"\0{place[1:]}" if abstract else place)
+        manager.settimeout(Patience.seconds)
+        process = subprocess.Popen([FRONT / name, "--help"], env=os.environ | {"NOTIFY_SOCKET": place}, stdout=subprocess.PIPE, stderr=subprocess.PIPE, text=True)
+        assert manager.recv(100) == b"READY=1"
+        process.send_signal(signal.SIGHUP)
+        output, told = process.communicate(timeout=2 * Patience.seconds)
+        assert (process.returncode, told) == (0, "") and output.startswith(f"usage: {name}")
 
 
 @pytest.mark.parametrize(("name", "count"), [("mjournal", 5), ("mbackup", 7), ("mgate", 6)])

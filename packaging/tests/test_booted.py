@@ -130,6 +130,14 @@ def test_the_log_is_opened_again(served: Served) -> None:
         served.root.comes(f"test -s {log}", "a new audit log")
         assert served.root.run(f"stat -c '%U %a' {log}") == "mserve 600\n"
     assert served.main("mfront") == main
+    reloads_at_once(served, "mfront")
+
+
+def reloads_at_once(served: Served, unit: str) -> None:
+    """A reload comes as soon as a restart is done, when Python has hardly started. It ends nothing."""
+    for _ in range(5):
+        served.root.run(f"systemctl restart {unit} && systemctl reload {unit}")
+    assert (served.shows(unit, "ActiveState"), served.shows(unit, "NRestarts")) == ("active", "0")
 
 
 def test_an_upgrade_restarts_what_runs(served: Served) -> None:
@@ -227,7 +235,7 @@ def test_a_gate_of_one_machine_serves_its_islands(served: Served) -> None:
     served.has('[[account]]\nname = "ANNEX"\nterminals = [1]\nsteps = 1000\n', "/etc/mserve/ANNEX.toml")
     root.run("mgate place ANNEX /etc/mserve/ANNEX.toml one")
     root.comes("mgate list | grep -q 'ANNEX.*here'", "an island that is served")
-    root.run("systemctl restart mgate && systemctl reload mgate")
+    reloads_at_once(served, "mgate")
     assert served.line("S ^SPLIT=^SPLIT+1 W ^SPLIT") == "4"
     root.run("systemctl start mserve-backup@machine")
     assert root.run("ls /var/lib/mserve/islands/*/backup/verified.json | wc -l") == "2\n"

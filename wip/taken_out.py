@@ -86,7 +86,7 @@ def main() -> int:
     words.add_argument("record", type=Path)
     words.add_argument("word", nargs="*")
     words.add_argument("--patience", type=float, default=60)
-    options = words.parse_args()
+    options = words.parse_intermixed_args()
     had = [json.loads(line) for line in options.record.read_text().splitlines()] if options.record.exists() else []
     passed = 0
     for finding, name, text, instead, tests in MENDS:

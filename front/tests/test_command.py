@@ -58,7 +58,8 @@ def test_a_reload_ends_nothing_once_systemd_may_send_it(tmp_path: Path, name: st
     with socket.socket(socket.AF_UNIX, socket.SOCK_DGRAM) as manager:
         manager.bind(f"\0{place[1:]}" if abstract else place)
         manager.settimeout(Patience.seconds)
-        process = subprocess.Popen([FRONT / name, "--help"], env=os.environ | {"NOTIFY_SOCKET": place}, stdout=subprocess.PIPE, stderr=subprocess.PIPE, text=True)
+        pipe, told_where = subprocess.PIPE, os.environ | {"NOTIFY_SOCKET": place}
+        process = subprocess.Popen([FRONT / name, "--help"], env=told_where, stdout=pipe, stderr=pipe, text=True)
         assert manager.recv(100) == b"READY=1"
         process.send_signal(signal.SIGHUP)
         output, told = process.communicate(timeout=2 * Patience.seconds)

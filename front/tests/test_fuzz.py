@@ -44,6 +44,31 @@ def test_a_head_is_refused_or_means_one_thing(data: bytes) -> None:
     assert read_head(written, 8192) == head
 
 
+# Heads of which two readers could make two requests: after a first line and a host that are good, and others.
+AFTER_A_GOOD_ONE = (
+    "Host: y", "host: x", "Content-Length: 5\r\nContent-Length: 5", "Content-Length: 5\r\ncontent-length: 6", "Transfer-Encoding: chunked",
+    "Content-Length: 5\r\nTransfer-Encoding: chunked", "Content-Length: +5", "Content-Length: -1", "Content-Length: 5, 5", "Content-Length: 0x5",
+    "Content-Length: \u00b2", "Content-Length:", " X: 1", "X : 1", "X\t: 1", ": 1", "X", "X: 1\r\n folded", "X: 1\nY: 2", "X: 1\rY: 2", "X: \0",
+    "Cookie: a=1\r\nCookie: a=2", "Origin: https://a\r\nOrigin: https://b", "Upgrade: websocket\r\nUpgrade: x")
+ODD = (
+    "GET / HTTP/1.1\r\nX: 1", "GET / HTTP/1.0\r\nHost: x", "GET  / HTTP/1.1\r\nHost: x", " GET / HTTP/1.1\r\nHost: x", "GET /\t HTTP/1.1\r\nHost: x",
+    "get / HTTP/1.1\r\nHost: x", "GET http://x/ HTTP/1.1\r\nHost: x", "GET / HTTP/1.1 \r\nHost: x", "\r\nGET / HTTP/1.1\r\nHost: x",
+    "GET / HTTP/1.1\nHost: x", *(f"GET / HTTP/1.1\r\nHost: x\r\n{fields}" for fields in AFTER_A_GOOD_ONE))
+
+
+@pytest.mark.parametrize("head", ODD)
+def test_heads_of_odd_forms_are_refused(head: str) -> None:
+    with pytest.raises(BadRequest) as refused:
+        read_head(head.encode("latin1") + END, 8192)
+    assert refused.value.status == 400
+
+
+def test_a_head_as_browsers_send_it_is_taken() -> None:
+    head = read_head(b"POST /line HTTP/1.1\r\nHost: x:1\r\nContent-Length: 8192\r\nX-A: 1\r\nX-A: \t2 \r\ncookie: a=1; b=2" + END, 8192)
+    assert (head.method, head.target, head.length, head.cookies()) == ("POST", "/line", 8192, {"a": "1", "b": "2"})
+    assert [value for name, value in head.fields if name == "X-A"] == ["1", "2"]
+
+
 class Kept(asyncio.Protocol):
     """A protocol that keeps what it is given, and answers when a test says so."""
 

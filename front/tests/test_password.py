@@ -72,11 +72,12 @@ async def test_a_password_in_the_place_of_a_name_is_not_in_the_audit_log(start) 
 
 
 @pytest.mark.parametrize("password", ["aaaaaaaaaaaa", "123456789012", "987654321098", "abcdefghijkl", "ababababababab", "kzkzkzkzkzkz", "ada.lovelace1",
-                                      "password1234", "qwertyuiop12", "", "x" * 2000, "mservemserve"])
+                                      "password1234", "qwertyuiop12", "", "x" * 2000, "mservemserve", "wombat-7 oa", "w8 Qt-" * 170 + "abcde"])
 def test_passwords_that_are_not_taken(password: str) -> None:
     assert fault_of(password, "ada.lovelace")
 
 
-@pytest.mark.parametrize("password", [PASSWORD, NEW, "another password", "Tr0ub4dor&3 and more", "ünïcödé wörds äré fine", "J7k$2mQx9!pL"])
+@pytest.mark.parametrize("password", [PASSWORD, NEW, "another password", "Tr0ub4dor&3 and more", "ünïcödé wörds äré fine", "J7k$2mQx9!pL", "wombat-7 oak",
+                                      "w8 Qt-" * 170 + "abcd"])
 def test_passwords_that_are_taken(password: str) -> None:
     assert fault_of(password, "ada") == ""

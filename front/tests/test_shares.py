@@ -12,7 +12,7 @@ from dataclasses import dataclass
 from types import SimpleNamespace
 
 import pytest
-from front import PASSWORD, busy, in_loop
+from front import PASSWORD, busy, in_loop, until
 from mserve_front import shares as shares_module
 from mserve_front.shares import ACCOUNT_WINDOW, LONG_WINDOW, WINDOW, Shares, may_take_long
 from mserve_front.users import HASHER
@@ -224,6 +224,8 @@ async def test_a_sign_on_whose_client_has_gone_holds_no_terminal(start, monkeypa
     await writer.drain()
     writer.transport.abort()
     os.kill(front.process.pid, signal.SIGCONT)
+    # Else the next one may come first.
+    await until(lambda: [one for one in front.audit() if one["event"] == "sign-on" and one["user"] == "dora"], "the sign-on of who has gone")
     dan = front.person("dan")
     async with dan.http:
         await dan.comes_in("the terminal of who has gone")

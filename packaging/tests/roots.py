@@ -16,8 +16,8 @@ TOP = Path(__file__).resolve().parent.parent.parent
 MAKE = TOP / "packaging" / "make_deb.py"
 PYTHON = "/usr/bin/python3"
 PASSWORD = "correct horse battery"
-# Seconds for what is to be there, however busy the machine is; and for which a root is there at most.
-PATIENCE, LONGEST = 120, 1200
+# Seconds for what is to be there, however busy the machine is; for a command, and for which a root is there at most.
+PATIENCE, COMMAND, LONGEST = 120, 900, 3600
 # What systemd empties as it starts.
 EMPTIED = ("/tmp", "/var/tmp")
 # The devices that a system has in a root whose first process is systemd, with their numbers.
@@ -33,7 +33,7 @@ def missed(what: str) -> None:
 
 def made(folder: Path) -> Path:
     """The package, made in a folder."""
-    done = subprocess.run([PYTHON, MAKE, "--to", folder], capture_output=True, text=True, timeout=LONGEST)
+    done = subprocess.run([PYTHON, MAKE, "--to", folder], capture_output=True, text=True, timeout=COMMAND)
     assert (done.returncode, done.stderr) == (0, ""), done.stderr
     return Path(done.stdout.strip())
 
@@ -79,7 +79,7 @@ class Root:
         return ["nsenter", "--target", str(self._holder.pid), "--mount", "--net", "bash", "-c", command]
 
     def _inside(self, command: str) -> tuple[int, str]:
-        done = subprocess.run(self._words(command), capture_output=True, text=True, timeout=300)
+        done = subprocess.run(self._words(command), capture_output=True, text=True, timeout=COMMAND)
         return done.returncode, done.stdout + done.stderr
 
     def _chrooted(self, command: str) -> list[str]:
@@ -94,13 +94,13 @@ class Root:
 
     def run(self, command: str, told: str = "") -> str:
         """Runs a command of a shell in this root: what it writes. It has to end well."""
-        done = subprocess.run(self.words(command), input=told, capture_output=True, text=True, timeout=300)
+        done = subprocess.run(self.words(command), input=told, capture_output=True, text=True, timeout=COMMAND)
         assert done.returncode == 0, f"{command}: {done.stdout}{done.stderr}"
         return done.stdout
 
     def succeeds(self, command: str) -> bool:
         """Whether a command ends well."""
-        return subprocess.run(self.words(command), stdin=subprocess.DEVNULL, capture_output=True, timeout=300).returncode == 0
+        return subprocess.run(self.words(command), stdin=subprocess.DEVNULL, capture_output=True, timeout=COMMAND).returncode == 0
 
     def comes(self, command: str, what: str) -> None:
         """Waits until a command ends well."""

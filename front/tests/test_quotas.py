@@ -266,7 +266,8 @@ async def test_who_waits_for_a_turn_goes_on_once_the_account_is_within_its_quota
 @in_loop()
 async def test_a_line_that_fills_the_memory_is_answered_zmem_and_others_go_on(start) -> None:
     """Its variables are gone; the front and the server stay."""
-    front: Front = start(before=["prlimit", f"--as={MEMORY}"], limits={"memory": 4 * MEMORY})
+    # Who reads nothing while another one's line takes long answers no ping.
+    front: Front = start(before=["prlimit", f"--as={MEMORY}"], limits={"memory": 4 * MEMORY, "heartbeat": 600})
     child = front.child
     async with front.person("ada") as ada, front.person("cleo") as cleo:
         assert await cleo.told("S A=7") == ""

@@ -31,7 +31,7 @@ MENDS = (
     ("a sign-on whose client has gone holds a terminal", "web.py", "        if request.transport is None:\n            # Who has gone", "        if False:\n            # Who has gone",
      ("test_shares.py::test_a_sign_on_whose_client_has_gone_holds_no_terminal",)),
     ("a local user reads all accounts", "server.py", "    enclosed = await asyncio.to_thread(can_enclose)\n", "    enclosed = False\n",
-     ("test_enclosure.py::test_nobody_reaches_the_server_also_while_it_is_started_again",)),
+     ("test_enclosure.py::test_nobody_enters_the_network_of_the_server", "test_enclosure.py::test_nobody_reaches_the_server_also_while_it_is_started_again")),
     ("memory and rows of one account: rows", "quotas.py", "{ROWS: limits.rows, ", "{ROWS: 1 << 60, ",
      ("test_quotas.py::test_an_account_over_its_quota_of_rows_is_slowed_and_told",)),
     ("memory and rows of one account: memory", "quotas.py", "MEMORY: limits.memory, ", "MEMORY: 1 << 60, ",

@@ -17,7 +17,8 @@ from mserve_front.doors import held
 from mserve_front.enclosure import HELPER, PORT, can_enclose, connected, started
 from mserve_front.server import HOST
 
-# What a local user without rights does: finds ports that are listened at, says a line at each terminal there, and looks for the word.
+# What a local user without rights does: finds ports that are listened at, says a line at each terminal there, and looks for the word. It is at each new one
+# as soon as that is there: a server that begins takes whoever comes first.
 INTRUDER = """
 import socket, sys, time
 def ports():
@@ -26,17 +27,26 @@ def ports():
             fields = line.split()
             if fields[3] == "0A":
                 yield int(fields[1].rpartition(":")[2], 16)
-end, found = time.time() + float(sys.argv[1]), set()
+end, found, tried, opened = time.time() + float(sys.argv[1]), set(), set(), []
 while time.time() < end:
-    for port in {*ports(), 9000}:
+    there = {*ports(), 9000}
+    tried &= there
+    for port in there - tried:
+        way = socket.socket()
+        way.settimeout(0.2)
         try:
-            with socket.create_connection(("127.0.0.1", port), 0.2) as there:
-                there.settimeout(0.3)
-                there.sendall(b"1 W ^SECRET\\n")
-                if b"hidden" in there.recv(1000):
-                    found.add(port)
+            way.connect(("127.0.0.1", port))
+            way.sendall(b"1 W ^SECRET\\n")
+            tried.add(port)
+            opened.append((port, way))
         except OSError:
             pass
+for port, way in opened:
+    try:
+        if b"hidden" in way.recv(1000):
+            found.add(port)
+    except OSError:
+        pass
 print(len(found))
 """
 
@@ -71,13 +81,13 @@ async def test_a_server_that_is_killed_before_it_has_sent_its_sockets(monkeypatc
 @pytest.mark.long
 @in_loop()
 async def test_nobody_reaches_the_server_also_while_it_is_started_again(start, tmp_path) -> None:
-    """The intruder tries each port of the machine, those of other tests too."""
+    """The intruder tries each port of the machine, those of other tests too, and is to come first at a server that begins."""
     front: Front = start(tls=False, store=str(tmp_path / "store"))
     async with front.person("ada") as ada:
         assert await ada.told('S ^SECRET="hidden"') == ""
-        intruder = as_nobody(sys.executable, "-c", INTRUDER, "6")
-        for _ in range(3):
-            await asyncio.sleep(1)
+        intruder = as_nobody(sys.executable, "-c", INTRUDER, "12")
+        for _ in range(10):
+            await asyncio.sleep(0.3)
             front.kill_child()
 
             async def again() -> bool:

@@ -198,6 +198,8 @@ def target(port: str, lines_port: str, certificate: str, key: str) -> Front:
     return front
 
 
+# Who waits until an attacker has begun reads nothing meanwhile, and answers no ping.
+PATIENT = {"heartbeat": 600}
 ATTACKS = [pipelines, half_open, malformed, wrong_sign_ons, pings, *(pytest.param(attack, marks=pytest.mark.long) for attack in (refused_lines, quick_lines))]
 
 
@@ -205,7 +207,7 @@ ATTACKS = [pipelines, half_open, malformed, wrong_sign_ons, pings, *(pytest.para
 @pytest.mark.parametrize("attack", ATTACKS, ids=lambda attack: attack.__name__)
 @in_loop()
 async def test_a_neighbour_is_served_during_an_attack(start, attack: Attack, count: int) -> None:
-    front: Front = start()
+    front: Front = start(limits=PATIENT)
     seconds = SECONDS * (count if count == 1 else count / 4)
     async with front.person("cleo") as cleo:
         before = (front.folder / "audit.log").stat().st_size
@@ -226,7 +228,7 @@ async def test_a_neighbour_is_served_during_an_attack(start, attack: Attack, cou
 @in_loop()
 async def test_wrong_tries_keep_nobody_out(start) -> None:
     """Of one's own name from elsewhere, and of other names."""
-    front: Front = start()
+    front: Front = start(limits=PATIENT)
     async with front.person("cleo") as cleo:
         attack = await attacked(front, wrong_sign_ons, 6)
         await until(lambda: any(record["event"] == "refused" for record in front.audit()), "a wrong try")
@@ -240,7 +242,7 @@ async def test_wrong_tries_keep_nobody_out(start) -> None:
 
 @in_loop()
 async def test_a_flood_of_right_passwords_takes_no_more_than_its_turns(start) -> None:
-    front: Front = start()
+    front: Front = start(limits=PATIENT)
     people = [front.person("ada") for _ in range(60)]
     tries = [asyncio.create_task(person.sign_on()) for person in people]
     await asyncio.sleep(0.05)

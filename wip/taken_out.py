@@ -67,8 +67,11 @@ MENDS = (
     ("a leader's server is killed: rows that it may have written", "history.py", "tuple(lines[len(unknown):]), rows[:wanted])", "tuple(lines[len(unknown):]), ())",
      ("test_restarts.py::test_a_standby_goes_on_after_trouble_at_its_leader[server_killed-one node]",
       "test_machines.py::test_an_island_that_had_trouble_is_taken_over[server]")),
-    ("a standby ends with its leader's trouble", "standby.py", "        if self._waits.text != str(error):\n            self._waits.comes_again(error)\n",
-     "        raise NoStart(str(error))\n", ("test_standby.py::test_a_standby_that_cannot_go_on",)),
+    ("a standby ends with its leader's trouble: other settings", "standby.py", "        except NotYet as error:\n            self._waits.comes(error)\n",
+     "        except NotYet as error:\n            raise NoStart(str(error)) from error\n", ("test_standby.py::test_a_standby_that_cannot_go_on",)),
+    ("a standby ends with its leader's trouble: another store", "standby.py",
+     "        except Stopped as error:\n            self._stands_still(error)\n        except BadJournal",
+     "        except Stopped as error:\n            raise NoStart(str(error)) from error\n        except BadJournal", ("test_standby.py::test_a_standby_whose_store_differs_stands_still",)),
 )
 
 

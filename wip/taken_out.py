@@ -15,9 +15,10 @@ from pathlib import Path
 FRONT, TESTS = "front/mserve_front", "front/tests"
 # A finding; the file, what stands there and what comes in its place; and the tests of which each is to fail.
 MENDS = (
-    ("cheap frames and refused lines stop all", "doors.py", "            self._give(PIECE)\n            self._wanted = not self.ready()\n",
-     "            self._give(len(self._held))\n            self._wanted = True\n",
+    ("cheap frames and refused lines stop all: turns", "sessions.py", "        await self._cheap.turn(session.account)\n", "        pass\n",
      ("test_attacks.py::test_a_neighbour_is_served_during_an_attack[pings]", "test_attacks.py::test_a_neighbour_is_served_during_an_attack[refused_lines]")),
+    ("refused lines flood the audit log", "sessions.py", '        if "refused" in record:\n            session.refused += 1\n            return\n', "",
+     ("test_attacks.py::test_a_neighbour_is_served_during_an_attack[refused_lines]",)),
     ("requests that are sent ahead stop all", "doors.py", "        elif self._free and self._held:\n", "        elif self._held:\n",
      ("test_attacks.py::test_a_neighbour_is_served_during_an_attack[pipelines]",)),
     ("connections that send all that is taken", "doors.py", "        if len(self._held) > WAITING and not self._paused", "        if False and not self._paused",
@@ -65,8 +66,7 @@ MENDS = (
     ("a table that has lost its last rows", "keeper.py", "reached.sequence > journal.sequence:\n", "reached.sequence > journal.sequence + 1_000_000:\n",
      ("test_table.py::test_a_table_that_has_lost_its_last_rows",)),
     ("a leader's server is killed: rows that it may have written", "history.py", "tuple(lines[len(unknown):]), rows[:wanted])", "tuple(lines[len(unknown):]), ())",
-     ("test_restarts.py::test_a_standby_goes_on_after_trouble_at_its_leader[server_killed-one node]",
-      "test_machines.py::test_an_island_that_had_trouble_is_taken_over[server]")),
+     ("test_restarts.py::test_a_standby_goes_on_after_trouble_at_its_leader[server_killed-one node]",)),
     ("a standby ends with its leader's trouble: other settings", "standby.py", "        except NotYet as error:\n            self._waits.comes(error)\n",
      "        except NotYet as error:\n            raise NoStart(str(error)) from error\n", ("test_standby.py::test_a_standby_that_cannot_go_on",)),
     ("a standby ends with its leader's trouble: another store", "standby.py",

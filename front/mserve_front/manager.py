@@ -1,5 +1,5 @@
 # SPDX-License-Identifier: Apache-2.0
-"""What systemd is told by a service of `Type=notify`: that signals may be sent to it. Before that, while Python itself starts, a reload would end it."""
+"""What systemd hears from a service of `Type=notify`: that signals may be sent to it. Before that, while Python itself starts, a reload would end it."""
 from __future__ import annotations
 
 import contextlib

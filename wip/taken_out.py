@@ -20,7 +20,7 @@ MENDS = (
     ("refused lines flood the audit log", "sessions.py", '        if "refused" in record:\n            session.refused += 1\n            return\n', "",
      ("test_attacks.py::test_a_neighbour_is_served_during_an_attack[refused_lines]",)),
     ("requests that are sent ahead stop all", "doors.py", "        elif self._free and self._held:\n", "        elif self._held:\n",
-     ("test_attacks.py::test_a_neighbour_is_served_during_an_attack[pipelines]",)),
+     ("test_fuzz.py::test_requests_are_handed_on_one_by_one_however_their_bytes_come", "test_attacks.py::test_a_neighbour_is_served_during_an_attack[pipelines]")),
     ("connections that send all that is taken", "doors.py", "        if len(self._held) > WAITING and not self._paused", "        if False and not self._paused",
      ("test_memory.py::test_connections_that_send_all_that_is_taken_have_bounded_memory",)),
     ("sign-on of all is denied: a user is locked out", "signing.py", '    return f"{place} {name}"', "    return name",

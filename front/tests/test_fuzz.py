@@ -10,7 +10,7 @@ import subprocess
 
 import aiohttp
 import pytest
-from front import COMMAND, Front, in_loop
+from front import COMMAND, Front, in_loop, until
 from hypothesis import HealthCheck, given, settings
 from hypothesis import strategies as st
 from mserve_front.doors import Doors, HttpDoor
@@ -87,15 +87,16 @@ class Wire(asyncio.Transport):
 
     def __init__(self) -> None:
         super().__init__()
-        self.closed, self.written = False, b""
+        self.closed, self.written, self.paused = False, b"", False
 
     def is_closing(self) -> bool:
         return self.closed
 
     def pause_reading(self) -> None:
-        """Nothing: what is drawn is small."""
+        self.paused = True
 
-    resume_reading = pause_reading
+    def resume_reading(self) -> None:
+        self.paused = False
 
     def write(self, data: bytes) -> None:
         self.written += data
@@ -139,6 +140,24 @@ def test_requests_are_handed_on_one_by_one_however_their_bytes_come(bodies: list
                 await asyncio.sleep(0.0005)
             assert wire.closed and b" 413 " in wire.written
     asyncio.run(run())
+
+
+@in_loop()
+async def test_a_door_reads_no_more_while_much_waits() -> None:
+    """What is sent ahead stays with the system, so that a connection has few bytes here, whatever its peer sends; it is read on once that is handed on."""
+    inner, wire, request = Kept(), Wire(), b"POST / HTTP/1.1\r\nHost: x\r\nContent-Length: 4000\r\n\r\n" + b"b" * 4000
+    door = HttpDoor(inner, None, "127.0.0.1", lambda _: None, Doors(Limits(), None, {}), lambda head, place: (place, True))
+    door.transport, count = wire, 0
+    while not wire.paused:
+        door.data_received(request)
+        count += 1
+        assert count < 8
+    for _ in range(count):
+        await until(lambda: len(b"".join(inner.given)) >= len(request), "a request that is handed on")
+        assert b"".join(inner.given) == request
+        inner.given.clear()
+        door.answered()
+    assert not wire.paused
 
 
 @pytest.fixture(scope="module")

@@ -23,7 +23,7 @@ def memory(front: Front) -> float:
 
 @in_loop()
 async def test_connections_that_send_all_that_is_taken_have_bounded_memory(start, count: int) -> None:
-    """Each has a head that does not end, and as much after it as the system takes. By what one takes, all that may be there stay in bounds."""
+    """Each has sent all of a request but its last byte. By what one takes, all that may be there stay in bounds."""
     resource.setrlimit(resource.RLIMIT_NOFILE, (resource.getrlimit(resource.RLIMIT_NOFILE)[1],) * 2)
     front: Front = start(limits={"sign_on": 600})
     async with front.person("cleo") as cleo:

@@ -18,7 +18,7 @@ from mserve_front.enclosure import HELPER, PORT, can_enclose, connected, started
 from mserve_front.server import HOST
 
 # What a local user without rights does: finds ports that are listened at, says a line at each terminal there, and looks for the word. It is at each new one
-# as soon as that is there: a server that begins takes whoever comes first.
+# as soon as that is there: a server that begins takes who comes first.
 INTRUDER = """
 import socket, sys, time
 def ports():
